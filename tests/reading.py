@@ -60,7 +60,7 @@ MORE_PAGE = TOP / "tests" / "reading_more.md"
 HEADLINE = TOP / "crates" / "token_session" / "src" / "driver.rt"
 # The clauses of `drive_new` on the pages: the theorem, and the bounds, on which no packet depends.
 STATEMENT, BOUNDS = "answered", "bounded"
-BOUNDS_RECORD = "IsBounded"
+BOUNDS_RECORD = "HasInternalProperties"
 # Fields of the record of bounds, in the order of their sections.
 APART = ("pending", "carried", "steps")
 # A definition whose value is only stored in this field. The definition, and definitions that nothing else needs, have a

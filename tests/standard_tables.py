@@ -84,19 +84,17 @@ def parse_list(text: str) -> Names:
 
 
 def read_definitions(path: str) -> Names:
-    """Returns the constants in a file of definitions, by number."""
+    """Returns the constants with hexadecimal values in a file of definitions, by number: those of CTAPHID's commands."""
     text = (TOP / "crates" / path).read_text(encoding="utf-8")
     return {
-        int(number.replace("_", ""), 0): name
-        for name, number in re.findall(r"^([A-Z_]+) = (0?x?[\da-f_]+)$", text, re.M)
+        int(number.replace("_", ""), 0): name for name, number in re.findall(r"^([A-Z_]+) = (0x[\da-f_]+)$", text, re.M)
     }
 
 
 def compare_limits() -> list[str]:
     """Returns the limits that differ between the definitions and the table."""
     table = {row["name"]: int(row["value"], 0) for row in read_rows("limits")}
-    text = (TOP / "crates/hid_packet/specs/Limits.antt").read_text(encoding="utf-8")
-    text += (TOP / "crates/hid_packet/specs/Commands.antt").read_text(encoding="utf-8")
+    text = (TOP / "crates/hid_packet/specs/Packet.antt").read_text(encoding="utf-8")
     specs = {
         name: int(value.replace("_", ""), 0) for name, value in re.findall(r"^([A-Z_]+) = ([\dxa-f_]+)$", text, re.M)
     }
@@ -175,7 +173,7 @@ def main() -> int:
         *compare_limits(),
         *compare_numbers(),
     ]
-    specs = read_definitions("hid_packet/specs/Commands.antt")
+    specs = read_definitions("hid_packet/specs/Packet.antt")
     found += [
         f"definitions: {name} is {number:#x}"
         for number, name in specs.items()

@@ -1,21 +1,39 @@
--- Each turn, over every history, answers what happened names.
+-- Each turn, over every history, sends the response that the history names.
 use Rattle.std.proofs.Common.{rules, ◌≡◌, ℕ, List, [], ◌∷◌, true, false, Option, None, option_map, Result, refl, sym}
-use Rattle.std.{proofs.Common.arith, specs.Option.option_or}
-use Rattle.cred_table.specs.{declared.row.Row.Row, Rows.ValidRows, Rows.same_id, Rows.no_two}
-use Rattle.ctap_message.specs.{Asked.RequestParameters, Requests.read_of}
+use Rattle.std.proofs.Common.{arith, ◌≤◌, take, Some, Ok, length, ap, append-nil, append_assoc}
+use Rattle.std.specs.Option.{option_or}
+use Rattle.cred_table.specs.declared.row.Row.{Row}
+use Rattle.cred_table.specs.Rows.{ValidRows, same_id, no_two}
+use Rattle.ctap_message.specs.Requests.{ParsedRequest, GetInfo}
+use Rattle.ctap_message.specs.Requests.{read_of}
 use Rattle.authn_core.specs.State.{PendingTask, State, Event, Request, PresenceIs, KeyIs, SignatureIs, Cancel, Drop}
-use Rattle.authn_core.specs.State.{Answer, Answered, Waits, TurnResult, status}
-use Rattle.authn_core.specs.Turn.{Start, first_state, request_turn, reply_turn, turn}
-use Rattle.authn_core.specs.Marks.{CredentialChange, apply_change, rows_among, TimedEvent, MayFollow, Orderly, core_at}
-use Rattle.authn_core.specs.{Ready.WorkReady, Views.pending_work}
-use Rattle.authn_core.specs.Exchanges.{work_of_request, Exchange, PendingRequest, begin_pending_request, rows_after, pending_request, pending_after}
-use Rattle.authn_core.specs.Assertions.{AssertionSeries, continues_series, latest_series, begins_series}
-use Rattle.authn_core.specs.Answers.{request_answer, requested_assertion, created_credential, resets_credentials, pending_reply_answer, incremented_credential}
-use Rattle.authn_core.specs.Answers.{answer_to, credential_change, exchange, exchanges}
-use Rattle.authn_core.proofs.{Answering.rows_marked, Readiness.core_sound, Served.request_served}
-use Rattle.authn_core.proofs.Histories.{none_later, mark_keeps}
-use Rattle.authn_core.proofs.Told.{WorkTold, reply_answers, made_same, reply_rows, reply_waits, PendingTold, reply_goes}
-use Rattle.authn_core.proofs.Served.{assertion_of_read, asked_read, BeginsTold, series_begun, next_goes_on, since_too}
+use Rattle.authn_core.specs.State.{Answer, Answered, Waits, TurnResult, status, Setup, Nothing, ignore_event}
+use Rattle.authn_core.specs.Turn.{Start, first_state, request_turn, reply_turn, turn, CoreState, working_channel}
+use Rattle.authn_core.specs.Turn.{core_after, core_answer}
+use Rattle.authn_core.specs.Marks.{CredentialChange, apply_change, rows_among, TimedEvent, MayFollow, Orderly}
+use Rattle.authn_core.specs.Marks.{core_at}
+use Rattle.authn_core.specs.Turn.{WorkReady, IsConcatenation}
+use Rattle.authn_core.specs.Views.{pending_work, wants_presence, wants_key, wants_signature}
+use Rattle.authn_core.specs.Answers.{work_of_request, Exchange, PendingRequest, begin_pending_request, rows_after}
+use Rattle.authn_core.specs.Answers.{pending_request, pending_after}
+use Rattle.authn_core.specs.Answers.{AssertionSeries, continues_series, latest_series, begins_series}
+use Rattle.authn_core.specs.Answers.{request_answer, requested_assertion, created_credential, resets_credentials}
+use Rattle.authn_core.specs.Answers.{pending_reply_answer, incremented_credential, answer_to, credential_change}
+use Rattle.authn_core.specs.Answers.{exchange, exchanges}
+use Rattle.authn_core.proofs.Histories.{rows_marked, core_sound, none_later, mark_keeps}
+use Rattle.authn_core.proofs.Served.{request_served, WorkTold, reply_answers, made_same, reply_rows, reply_waits}
+use Rattle.authn_core.proofs.Served.{PendingTold, reply_goes, assertion_of_read, asked_read, BeginsTold, series_begun}
+use Rattle.authn_core.proofs.Served.{next_goes_on, since_too}
+use Rattle.std.proofs.Math.Seq.{take-append_seam}
+use Rattle.ctap_message.specs.Responses.{info_answer}
+use Rattle.authn_core.specs.declared.replies.Presence.{Presence}
+use Rattle.authn_core.specs.declared.replies.NewKey.{NewKey}
+use Rattle.ctap_cbor.specs.Grammar.{AreBytes, head}
+use Rattle.ctap_cbor.specs.Grammar.{IsCanonical, IsLawful, encode_tree}
+use Rattle.fido_authdata.specs.AuthData.{cose_key_bytes}
+use Rattle.authn_core.specs.Views.{cose_key_tree}
+
+-- ---- each turn, over every history, answers what happened names
 
 -- ---- replies, where there is work or none
 
@@ -88,7 +106,7 @@ IsTaken (Answered bytes) = Unit {0}
 IsTaken (Waits status) = Unit {0}
 IsTaken answer = ⊥
 
-pub request_taken : (start : Start) (past : List Exchange) (at cid : ℕ) (read : Result RequestParameters ℕ) →
+pub request_taken : (start : Start) (past : List Exchange) (at cid : ℕ) (read : Result ParsedRequest ℕ) →
     IsTaken (request_answer start past at cid read)
 request_taken start past at cid read = grind arith
 
@@ -189,3 +207,76 @@ pub waits_told : (start : Start) (past : List Exchange) (s : State) (o : Option 
     WorkTold start s.rows s.work o
     → option_map pending_work s.work ≡ work_of_request o
 waits_told start past s o h = search (rules, arith)
+
+-- ---- all that the transport needs to know of the authenticator
+
+-- A reply that the waiting work doesn't need leaves the state, and is answered by nothing.
+pub presence_ignored : (u : Setup) (s : State) (t : ℕ) (p : Presence) → wants_presence s.work ≡ false
+    → turn u s t (PresenceIs p) ≡ ignore_event s
+presence_ignored u s t p h = unfold turn in grind arith
+
+pub key_ignored : (u : Setup) (s : State) (t : ℕ) (key : Option NewKey) → wants_key s.work ≡ false
+    → turn u s t (KeyIs key) ≡ ignore_event s
+key_ignored u s t key h = unfold turn in grind arith
+
+pub signature_ignored : (u : Setup) (s : State) (t : ℕ) (sig : Option (List ℕ)) → wants_signature s.work ≡ false
+    → turn u s t (SignatureIs sig) ≡ ignore_event s
+signature_ignored u s t sig h = unfold turn in grind arith
+
+-- ---- with channels that were given out
+
+-- a channel that was given out, where something is on one
+abbrev pub IsGiven : ℕ → Option ℕ → Type 0
+IsGiven given None = Unit {0}
+IsGiven given (Some cid) = (1 ≤ cid) × (cid ≤ given)
+
+-- a request comes on a channel that was given out
+abbrev pub EventIsGiven : ℕ → Event → Type 0
+EventIsGiven given (Request cid bytes) = (1 ≤ cid) × (cid ≤ given)
+EventIsGiven given e = Unit {0}
+
+-- Work is on the channel that it was on, or on the request's.
+pub work_stays_given : (given : ℕ) (core : CoreState) (at : ℕ) (e : Event) → IsGiven given (working_channel core)
+    → EventIsGiven given e
+    → IsGiven given (working_channel (core_after core at e))
+work_stays_given given core at e w h = unfold turn in grind arith
+
+-- A drop of an authenticator answers nothing.
+pub drop_answers_nothing : (core : CoreState) (at : ℕ) → core_answer core at Drop ≡ Nothing
+drop_answers_nothing core at = unfold turn in refl
+
+-- authenticatorGetInfo is answered by its map, with the AAGUID.
+pub info_answered : (core : CoreState) (at cid : ℕ) (bytes : List ℕ) → read_of bytes ≡ Ok GetInfo
+    → core_answer core at (Request cid bytes) ≡ Answered (info_answer core.setup.aaguid)
+info_answered core at cid bytes asks = unfold turn in cc
+
+-- The authenticator data are the front of what is signed.
+pub data_signed : {signed front hash : List ℕ} {n : ℕ} (bytes : List ℕ) → bytes ≡ signed → IsConcatenation signed front hash n
+    → take n bytes ≡ front
+data_signed {front = front} {hash = hash} bytes same j = rw (same, j.bytes, ← j.len) (take-append_seam front hash)
+
+-- ---- a COSE key's bytes are the encoding of its map
+
+-- the head of a byte string of 32 bytes
+of_32 : (x : List ℕ) → length x ≡ 32 → head 2 (length x) ≡ 0x58 ∷ 0x20 ∷ []
+unfolding head
+of_32 x e = rw e refl
+
+spelled : (x y : List ℕ) → length x ≡ 32 → length y ≡ 32 → cose_key_bytes x y ≡ encode_tree (cose_key_tree x y)
+unfolding head
+spelled x y ex ey =
+    rw (of_32 x ex, of_32 y ey, append-nil y)
+    (ap (λ rest. 165 ∷ 1 ∷ 2 ∷ 3 ∷ 38 ∷ 32 ∷ 1 ∷ 33 ∷ 88 ∷ 32 ∷ rest) (append_assoc x (34 ∷ 88 ∷ 32 ∷ []) y))
+
+lawful : (x y : List ℕ) → length x ≡ 32 → length y ≡ 32 → AreBytes x → AreBytes y → IsLawful (cose_key_tree x y)
+unfolding head
+lawful x y ex ey bx by = (
+  omega arith,
+  (tt, tt, (tt, refl, (tt, refl, (tt, refl, (tt, refl, tt))))),
+  (omega arith, omega arith, (omega arith, omega arith, (omega arith, omega arith, (omega arith, (omega arith, bx), (omega arith, (omega arith, by), tt))))),
+)
+
+pub canonical : (x y : List ℕ) → length x ≡ 32 → length y ≡ 32 → AreBytes x → AreBytes y →
+    IsCanonical (cose_key_tree x y) (cose_key_bytes x y)
+canonical x y ex ey bx by =
+    record { enc = record { lawful = lawful x y ex ey bx by; spelled = spelled x y ex ey }; flat = omega arith }

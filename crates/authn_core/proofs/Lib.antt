@@ -1,11 +1,4 @@
-pub mod Readiness
-pub mod Facts
+pub mod Kept
 mod Examples
-pub mod Signed
 pub mod Histories
-mod SignedExamples
-mod Answering
-mod Told
 mod Served
-mod Kept
-mod CoseKeys

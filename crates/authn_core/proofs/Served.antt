@@ -1,38 +1,199 @@
--- Each answer to a request is the one that what happened names, and what waits and is pending is then as it says.
-use Rattle.std.proofs.Common.{rules, ◌≡◌, ◌==◌, nat_le, if◌then◌else◌, ℕ, zero, suc, ◌+◌, List, [], ◌∷◌, drop}
-use Rattle.std.proofs.Common.{slice_get, length, Bool, true, false, ◌&&◌, cond, Option, Some, None, option_map, Result}
-use Rattle.std.proofs.Common.{Ok, Err, refl, sym, ap, ◌∙◌, arith}
-use Rattle.std.{proofs.lemmas.Slice.Eq.bytes_eq-Decides, specs.List.find, specs.Option.option_or}
-use Rattle.cred_table.specs.{declared.row.Row.Row, Waiting.new_pending, Rows.has_id, Rows.same_id, Rows.no_two}
-use Rattle.cred_table.proofs.Basics.{same_bytes}
-use Rattle.ctap_message.specs.Asked.{RequestParameters, MakeCredential, GetAssertion, GetInfo, Reset, GetNextAssertion, Selection}
-use Rattle.ctap_message.specs.{Members.has_entries, Descriptors.ids_of}
-use Rattle.authn_core.specs.State.{AssertState, AwaitAssertPresence, PendingTask, State, Answer, Waits, TurnResult, status, await_reply}
+-- What is pending is what the history names, and so is each response to a request.
+use Rattle.std.proofs.Common.{◌≡◌, ℕ, ◌+◌, List, [], ◌∷◌, drop, length, Bool, true, false, ◌&&◌, cond, Option, Some}
+use Rattle.std.proofs.Common.{None, refl, arith, rules, ◌==◌, nat_le, if◌then◌else◌, zero, suc, slice_get, option_map}
+use Rattle.std.proofs.Common.{Result, Ok, Err, sym, ap, ◌∙◌}
+use Rattle.std.specs.List.{list_all, find}
+use Rattle.cred_table.specs.declared.row.Row.{Row}
+use Rattle.cred_table.specs.Rows.{new_pending}
+use Rattle.cred_table.specs.Rows.{counter_of, rows_incremented, has_id, same_id, no_two}
+use Rattle.cred_table.proofs.Chain.{same_bytes}
+use Rattle.ctap_message.specs.Requests.{ParsedRequest, MakeCredential, GetAssertion, Reset, GetNextAssertion, Selection}
+use Rattle.ctap_message.specs.Requests.{GetInfo}
+use Rattle.ctap_message.specs.Members.{ids_of}
+use Rattle.authn_core.specs.declared.replies.Presence.TheVariants.{Granted}
+use Rattle.authn_core.specs.Turn.{TaskReady, AllHaveRows}
+use Rattle.authn_core.specs.Signed.{AreRpCredentials, rp_id_hash_of}
+use Rattle.authn_core.specs.State.{AssertState, Task, AwaitResetPresence, AwaitSelectionPresence, AwaitMakePresence}
+use Rattle.authn_core.specs.State.{AwaitKeyPair, AwaitMakeSignature, AwaitAssertPresence, AwaitAssertSignature}
+use Rattle.authn_core.specs.State.{PendingTask, State, Event, PresenceIs, KeyIs, SignatureIs, Answer, Waits, Ignored}
+use Rattle.authn_core.specs.State.{status, await_reply, TurnResult, await_signature, respond_refusal}
+use Rattle.authn_core.specs.Turn.{new_make_state, has_listed_credential}
+use Rattle.authn_core.specs.Turn.{Start, first_state, task_reply_turn, request_turn}
+use Rattle.authn_core.specs.Marks.{CredentialChange, apply_change}
+use Rattle.authn_core.specs.Answers.{Exchange, PendingRequest, rows_after, begin_pending_request}
+use Rattle.authn_core.specs.Answers.{AssertionSeries, applicable_ids, continues_series, answers_assertion}
+use Rattle.authn_core.specs.Answers.{answered_assertions, assertion_for, new_series, is_get_next_assertion}
+use Rattle.authn_core.specs.Answers.{number_of_applicable, assertion_by, next_assertion, is_in_time}
+use Rattle.authn_core.specs.Answers.{may_continue_series, latest_series}
+use Rattle.authn_core.specs.Answers.{new_credential, created_credential, reply_answer, incremented_credential}
+use Rattle.authn_core.specs.Answers.{is_reset_granted, requested_assertion, status_response, presence_needed}
+use Rattle.authn_core.specs.Answers.{still_processing, begin_assertion_answer, request_answer}
+use Rattle.authn_core.proofs.Histories.{any_find, excluded_named, full_fits, mark_keeps, mark_resets, mark_raises}
+use Rattle.authn_core.proofs.Histories.{mark_makes, all_along, find_raised, signers_apply, all_found, applicable_all}
+use Rattle.authn_core.proofs.Histories.{applicable_there}
+use Rattle.std.proofs.lemmas.Slice.Eq.{bytes_eq-Decides}
+use Rattle.std.specs.Option.{option_or}
+use Rattle.ctap_message.specs.Members.{has_entries}
 use Rattle.authn_core.specs.declared.refusal.Refusal.{Refusal}
-use Rattle.authn_core.specs.{State.await_signature, State.respond_refusal, Marks.apply_change, Ready.AllHaveRows, Signed.AreRpCredentials, Signed.rp_of}
-use Rattle.authn_core.specs.GetAssertion.{assertion_turn, sign_pending_row, next_assertion_turn}
+use Rattle.authn_core.specs.Turn.{assertion_turn, sign_pending_row, next_assertion_turn}
 use Rattle.sha2.specs.Sha256.{sha256}
-use Rattle.authn_core.specs.{Turn.Start, Turn.first_state, Turn.request_turn, Answers.requested_assertion, Answers.incremented_credential}
-use Rattle.authn_core.specs.Exchanges.{Exchange, begin_pending_request, rows_after}
-use Rattle.authn_core.specs.Assertions.{AssertionSeries, new_series, is_get_next_assertion, number_of_applicable, assertion_by, next_assertion, is_in_time}
-use Rattle.authn_core.specs.Assertions.{may_continue_series, applicable_ids, continues_series, answers_assertion, answered_assertions, latest_series, assertion_for}
-use Rattle.authn_core.specs.Answers.{status_response, presence_needed, still_processing, begin_assertion_answer, request_answer}
-use Rattle.authn_core.proofs.{Answering.signers_apply, Told.Going, Histories.mark_keeps, Histories.mark_raises}
-use Rattle.authn_core.proofs.Readiness.{all_along, all_found, applicable_all, applicable_there, find_raised}
-use Rattle.authn_core.proofs.Told.{JobTold, busy, IsLatest, is_assertion, Asserts, GoingOrNot, PendingTold, all_raised}
+
+-- What a state holds is what happened before it, and a reply keeps it so: each answer to a reply is the one that what
+-- happened names.
+
+-- ---- what holds between turns
+
+-- what waits is for the request that isn't answered yet, after the replies that it took
+abbrev pub TaskTold : List Row → Task → ParsedRequest → (took : List Event) → Option AssertState → Type 0
+TaskTold rows AwaitResetPresence Reset [] a = a ≡ None
+TaskTold rows AwaitSelectionPresence Selection [] a = a ≡ None
+TaskTold rows (AwaitMakePresence m excluded) (MakeCredential hash rp_id user_id user_name rk exclude) [] a =
+    (a ≡ None) × (m ≡ new_make_state hash rp_id user_id user_name rk) × (excluded ≡ has_listed_credential m.rp rows (ids_of exclude))
+TaskTold rows (AwaitKeyPair m) (MakeCredential hash rp_id user_id user_name rk exclude) (PresenceIs reply ∷ []) a =
+    (a ≡ None) × (m ≡ new_make_state hash rp_id user_id user_name rk)
+TaskTold rows (AwaitMakeSignature m key signed) (MakeCredential hash rp_id user_id user_name rk exclude)
+    (KeyIs (Some k) ∷ took) a =
+    (a ≡ None) × (m ≡ new_make_state hash rp_id user_id user_name rk) × (key ≡ k)
+TaskTold rows (AwaitAssertPresence x) (GetAssertion hash rp_id allow true) [] a = a ≡ Some x
+TaskTold rows (AwaitAssertSignature x counter signed) (GetAssertion hash rp_id allow false) [] a =
+    (a ≡ Some x) × (counter ≡ counter_of x.id rows)
+TaskTold rows (AwaitAssertSignature x counter signed) (GetAssertion hash rp_id allow up) (PresenceIs reply ∷ took) a =
+    (a ≡ Some x) × (counter ≡ counter_of x.id rows)
+TaskTold rows (AwaitAssertSignature x counter signed) GetNextAssertion [] a = (a ≡ Some x) × (counter ≡ counter_of x.id rows)
+TaskTold rows task asked took a = ⊥
+
+abbrev pub JobTold : List Row → Option PendingTask → (cid await_reply : ℕ) → ParsedRequest → (took : List Event) → Option AssertState →
+    Type 0
+JobTold rows None cid await_reply asked took a = ⊥
+JobTold rows (Some work) cid await_reply asked took a =
+    (work.cid ≡ cid) × (status work.task ≡ await_reply) × TaskTold rows work.task asked took a
+
+abbrev pub WorkTold : Start → List Row → Option PendingTask → Option PendingRequest → Type 0
+WorkTold start rows work None = work ≡ None
+WorkTold start rows work (Some u) = JobTold rows work u.cid u.status u.asked u.took
+    (assertion_for start u.before u.asked)
+
+-- ---- replies
+
+pub reply_answers : (start : Start) (s : State) (at cid : ℕ) (task : Task) (asked : ParsedRequest) (took : List Event)
+    (a : Option AssertState) (e : Event)
+    → TaskTold s.rows task asked took a
+    → (task_reply_turn (first_state start).setup s at cid task e).answer ≡ reply_answer start s.rows a asked took e
+reply_answers start s at cid task asked took a e h = grind (arith, excluded_named, full_fits, any_find)
+
+abbrev pub made_by_reply : ParsedRequest → (took : List Event) → (reply : Event) → Option Row
+made_by_reply asked took (SignatureIs (Some sig)) = new_credential asked took
+made_by_reply asked took reply = None
+
+pub made_same : (u : PendingRequest) (e : Event) → created_credential (Some u) e ≡ made_by_reply u.asked u.took e
+made_same u e = grind arith
+
+pub reply_rows : (start : Start) (s : State) (at cid : ℕ) (task : Task) (asked : ParsedRequest) (took : List Event)
+    (a : Option AssertState) (e : Event)
+    → TaskTold s.rows task asked took a
+    → let t = task_reply_turn (first_state start).setup s at cid task e in
+    t.state.rows ≡ apply_change
+    (record { made = made_by_reply asked took e; raises = incremented_credential a t.answer; resets = is_reset_granted asked e })
+    s.rows
+reply_rows start s at cid task asked took a e h = grind (arith, mark_keeps, mark_resets, mark_raises, mark_makes)
+
+-- what waits after a reply with this answer
+abbrev pub StillTold : List Row → Option PendingTask → (cid await_reply : ℕ) → ParsedRequest → (took : List Event) →
+    Option AssertState →
+    Event → Answer → Type 0
+StillTold rows work cid await_reply asked took a e (Waits now) = JobTold rows work cid now asked (e ∷ took) a
+StillTold rows work cid await_reply asked took a e Ignored = JobTold rows work cid await_reply asked took a
+StillTold rows work cid await_reply asked took a e answer = work ≡ None
+
+pub reply_waits : (start : Start) (s : State) (at cid : ℕ) (task : Task) (asked : ParsedRequest) (took : List Event)
+    (a : Option AssertState) (e : Event)
+    → TaskTold s.rows task asked took a → s.work ≡ Some (record { cid = cid; task = task }) →
+    TaskReady start.capacity s.rows task
+    → let t = task_reply_turn (first_state start).setup s at cid task e in
+    StillTold t.state.rows t.state.work cid (status task) asked took a e t.answer
+reply_waits start s at cid task asked took a e h w r = grind (arith, find_raised, same_bytes)
+
+-- ---- what is pending
+
+abbrev pub busy : Option PendingTask → ℕ
+busy None = 0
+busy (Some work) = 1
+
+-- the time runs from the latest assertion
+abbrev pub IsLatest : Option PendingTask → (moment : ℕ) → List Exchange → Type 0
+IsLatest (Some work) moment done = Unit {0}
+IsLatest None moment [] = ⊥
+IsLatest None moment (x ∷ older) = moment ≡ x.at
+
+abbrev pub is_assertion : Task → Bool
+is_assertion (AwaitAssertPresence a) = true
+is_assertion (AwaitAssertSignature a counter signed) = true
+is_assertion task = false
+
+abbrev pub Asserts : Option PendingTask → Type 0
+Asserts None = Unit {0}
+Asserts (Some work) = is_assertion work.task ≡ true
+
+-- of the ids, those are pending that follow the answered ones and the one that is waited for
+pub record Going (cid : ℕ) (hash rp : List ℕ) (presence : Bool) (all : List (List ℕ)) (done : List Exchange)
+    (s : State) : Type 0 where
+  pub moment : ℕ
+  pub ids : s.pending ≡ new_pending cid hash presence moment (drop (length done + busy s.work) all)
+  pub each : AreRpCredentials rp s.rows (drop (length done + busy s.work) all)
+  pub latest : IsLatest s.work moment done
+  pub work : Asserts s.work
+
+-- of a series that goes on, else nothing is pending
+abbrev pub GoingOrNot : Bool → (cid : ℕ) → (hash rp : List ℕ) → Bool → List (List ℕ) → List Exchange → State → Type 0
+GoingOrNot true cid hash rp presence all done s = Going cid hash rp presence all done s
+GoingOrNot false cid hash rp presence all done s = s.pending ≡ None
+
+abbrev pub PendingTold : Start → State → Option AssertionSeries → Type 0
+PendingTold start s None = s.pending ≡ None
+PendingTold start s (Some x) = GoingOrNot (list_all (λ y. continues_series y.event y.answer) x.since) x.cid x.hash x.rp
+    x.presence
+    (applicable_ids (rows_after start x.before) x.rp x.given x.allow) (answered_assertions x) s
+
+pub all_raised : (rp id : List ℕ) (rows : List Row) (ids : List (List ℕ)) → AreRpCredentials rp rows ids →
+    AreRpCredentials rp (rows_incremented id rows) ids
+all_raised rp id rows ids h = all_along _ _ ids (λ q e. grind (arith, find_raised)) h
+
+pub reply_goes : (start : Start) (s : State) (at on : ℕ) (task : Task) (e : Event) (b : Bool) (cid : ℕ)
+    (hash rp : List ℕ) (presence : Bool)
+    (all : List (List ℕ)) (done : List Exchange) (m : CredentialChange)
+    → s.work ≡ Some (record { cid = on; task = task }) → GoingOrNot b cid hash rp presence all done s
+    → let t = task_reply_turn (first_state start).setup s at on task e in
+    let x : Exchange = record { at = at; event = e; answer = t.answer; did = m } in
+    GoingOrNot (continues_series e t.answer && b) cid hash rp presence all (cond (answers_assertion e t.answer) (x ∷ done) done)
+    t.state
+reply_goes start s at on task e false cid hash rp presence all done m w g = grind arith
+reply_goes start s at on (AwaitAssertPresence a) (PresenceIs Granted) true cid hash rp presence all done m w g =
+    let d : drop (length done + 1) all ≡ drop (length done + busy s.work) all = rw w refl in
+    record {
+      moment = g.moment;
+      ids = rw d g.ids;
+      each = rw d (all_raised rp a.id s.rows _ g.each);
+      latest = tt;
+      work = refl;
+    }
+reply_goes start s at on (AwaitAssertSignature a counter signed) (SignatureIs (Some sig)) true cid hash rp presence all done m w
+    g = grind arith
+reply_goes start s at on task e true cid hash rp presence all done m w g = grind arith
+
+-- ---- each answer to a request is the one that what happened names, and what waits and is pending is then as it says
 
 -- ---- requests
 
-abbrev pub assertion_of_read : Start → List Exchange → Result RequestParameters ℕ → Option AssertState
+abbrev pub assertion_of_read : Start → List Exchange → Result ParsedRequest ℕ → Option AssertState
 assertion_of_read start past (Ok asked) = assertion_for start past asked
 assertion_of_read start past (Err code) = None
 
-pub asked_read : (start : Start) (past : List Exchange) (cid status : ℕ) (read : Result RequestParameters ℕ)
+pub asked_read : (start : Start) (past : List Exchange) (cid status : ℕ) (read : Result ParsedRequest ℕ)
     → requested_assertion start (begin_pending_request cid status past read) ≡ assertion_of_read start past read
 asked_read start past cid status read = search (rules, arith)
 
 -- what waits after a request with this answer
-abbrev pub BeginsTold : List Row → Option PendingTask → (cid : ℕ) → Result RequestParameters ℕ → Option AssertState → Answer → Type 0
+abbrev pub BeginsTold : List Row → Option PendingTask → (cid : ℕ) → Result ParsedRequest ℕ → Option AssertState → Answer → Type 0
 BeginsTold rows work cid (Ok asked) a (Waits now) = JobTold rows work cid now asked [] a
 BeginsTold rows work cid read a answer = work ≡ None
 
@@ -49,11 +210,11 @@ pub begins_rows : (rows : List Row) (at cid : ℕ) (hash rp : List ℕ) (presenc
 begins_rows rows at cid hash rp presence given ids = grind (arith, mark_keeps, mark_raises)
 
 -- what is asked is an assertion, with presence or without
-abbrev pub AsksWith : Bool → RequestParameters → Type 0
+abbrev pub AsksWith : Bool → ParsedRequest → Type 0
 AsksWith presence (GetAssertion hash rp_id allow up) = up ≡ presence
 AsksWith presence asked = ⊥
 
-pub begins_waits : (rows : List Row) (at cid : ℕ) (asked : RequestParameters) (hash rp : List ℕ) (presence given : Bool)
+pub begins_waits : (rows : List Row) (at cid : ℕ) (asked : ParsedRequest) (hash rp : List ℕ) (presence given : Bool)
     (ids : List (List ℕ))
     → AsksWith presence asked → AllHaveRows rows ids → let t = assertion_turn rows at cid hash rp presence given ids in
     BeginsTold t.state.rows t.state.work cid (Ok asked) (assertion_by hash rp presence (number_of_applicable given (length ids))
@@ -97,10 +258,10 @@ abbrev pub where_taken : Answer → Option AssertionSeries → Option AssertionS
 where_taken (Waits status) o = o
 where_taken answer o = None
 
-abbrev pub series_begun : (cid : ℕ) → List Exchange → Result RequestParameters ℕ → Answer → Option AssertionSeries
+abbrev pub series_begun : (cid : ℕ) → List Exchange → Result ParsedRequest ℕ → Answer → Option AssertionSeries
 series_begun cid past read answer = where_taken answer (new_series cid past read)
 
-abbrev pub next_goes_on : Result RequestParameters ℕ → Answer → Bool
+abbrev pub next_goes_on : Result ParsedRequest ℕ → Answer → Bool
 next_goes_on read (Waits status) = is_get_next_assertion read
 next_goes_on read answer = false
 
@@ -108,7 +269,7 @@ abbrev pub since_too : Exchange → Option AssertionSeries → Option AssertionS
 since_too y o = option_map (λ (x : AssertionSeries). record x { since = y ∷ x.since }) o
 
 -- A request was served: its answer, what was done to the rows, what waits, and what is pending.
-pub record Served (start : Start) (past : List Exchange) (before : List Row) (at cid : ℕ) (read : Result RequestParameters ℕ)
+pub record Served (start : Start) (past : List Exchange) (before : List Row) (at cid : ℕ) (read : Result ParsedRequest ℕ)
     (t : TurnResult) : Type 0 where
   pub answer : t.answer ≡ request_answer start past at cid read
   pub rows : t.state.rows ≡ apply_change
@@ -150,7 +311,7 @@ pub begun_pending : (start : Start) (s : State) (y : Exchange) (o : Option Asser
     → PendingTold start s (option_or (where_taken answer (Some x)) (since_too y o))
 begun_pending start s y o answer x e g h = grind arith
 
-pub stops : (read : Result RequestParameters ℕ) (answer : Answer) → waits_on answer ≡ false → next_goes_on read answer ≡ false
+pub stops : (read : Result ParsedRequest ℕ) (answer : Answer) → waits_on answer ≡ false → next_goes_on read answer ≡ false
 stops read answer h = grind arith
 
 -- ---- what a getNextAssertion leaves pending
@@ -280,7 +441,7 @@ next_served start past s at cid None w p = rw p (refl, sym (mark_keeps s.rows), 
 next_served start past s at cid (Some x) w p = next_of_going start s at cid _ x.cid x.hash x.rp x.presence _
     (answered_assertions x) w p
 
-pub request_served : (start : Start) (past : List Exchange) (s : State) (at cid : ℕ) (read : Result RequestParameters ℕ) →
+pub request_served : (start : Start) (past : List Exchange) (s : State) (at cid : ℕ) (read : Result ParsedRequest ℕ) →
     s.work ≡ None
     → s.rows ≡ rows_after start past → PendingTold start s (latest_series past) → no_two same_id s.rows ≡ true
     → Served start past s.rows at cid read (request_turn (first_state start).setup s.rows s.pending at cid read)
@@ -294,7 +455,7 @@ request_served start past s at cid (Ok (GetAssertion hash rp_id allow presence))
     let rp = sha256 rp_id in let given = has_entries allow in
     let same = signers_apply s.rows rp given (ids_of allow) in
     let there = applicable_there s.rows rp given (ids_of allow) in
-    let all = applicable_all (λ id. rp_of id s.rows ≡ Some rp) s.rows rp given (ids_of allow)
+    let all = applicable_all (λ id. rp_id_hash_of id s.rows ≡ Some rp) s.rows rp given (ids_of allow)
     (all_along _ _ s.rows (λ r f e. grind (arith, bytes_eq-Decides)) (all_found s.rows d)) in
     record {
       answer = rw (← r, same) (begins_answers s.rows at cid hash rp presence given _);

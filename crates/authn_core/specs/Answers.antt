@@ -1,21 +1,184 @@
--- The answer of an authenticator to each event, as a function of the earlier events and answers (CTAP 2.1, sections 6
--- and 8.2). The comment after each error status is its name in section 8.2.
-use Rattle.std.specs.Prelude.{ℕ, ◌+◌, ◌==◌, nat_le, List, [], ◌∷◌, length, Bool, true, false, ◌&&◌, not, Option, Some}
-use Rattle.std.specs.Prelude.{None, Result, Ok, Err, if◌then◌else◌}
-use Rattle.std.specs.{List.find, List.list_any, Str.bytes_eq}
-use Rattle.cred_table.specs.{declared.row.Row.Row, Names.cut}
-use Rattle.fido_authdata.specs.AuthData.{assertion_bytes, created_bytes}
-use Rattle.ctap_message.specs.Asked.{RequestParameters, MakeCredential, GetAssertion, GetInfo, Reset, GetNextAssertion, Selection}
-use Rattle.ctap_message.specs.Answers.{created_answer, assertion_answer, info_answer}
-use Rattle.ctap_message.specs.{Descriptors.ids_of, Requests.read_of}
+-- The answer to each event, as a function of the earlier events and answers (CTAP 2.1, section 6).
+use Rattle.std.specs.Prelude.{ℕ, List, [], ◌∷◌, map, Option, Some, None, option_map, Result, Ok, Err, ◌+◌, ◌==◌}
+use Rattle.std.specs.Prelude.{nat_le, length, reverse, take, slice_get, Bool, true, false, ◌&&◌, if◌then◌else◌, not}
+use Rattle.cred_table.specs.declared.row.Row.{Row}
+use Rattle.ctap_message.specs.Requests.{ParsedRequest, read_of, GetAssertion, GetNextAssertion, MakeCredential}
+use Rattle.ctap_message.specs.Requests.{GetInfo, Reset, Selection}
+use Rattle.authn_core.specs.Marks.{CredentialChange, rows_after_changes, TimedEvent, replaces_credential}
+use Rattle.authn_core.specs.Turn.{Start, Work}
+use Rattle.authn_core.specs.State.{Event, Request, Answer, Waits, Ignored, AssertState, SignatureIs, Answered}
+use Rattle.authn_core.specs.State.{PresenceIs, KeyIs, Cancel, Drop, Nothing}
+use Rattle.std.specs.List.{filter, list_all, list_any, find}
+use Rattle.std.specs.Option.{option_or}
+use Rattle.std.specs.Str.{bytes_eq}
+use Rattle.ctap_message.specs.Members.{has_entries, ids_of}
 use Rattle.sha2.specs.Sha256.{sha256}
-use Rattle.authn_core.specs.declared.replies.{Presence.Presence, NewKey.NewKey}
+use Rattle.cred_table.specs.Rows.{cut}
+use Rattle.fido_authdata.specs.AuthData.{assertion_bytes, created_bytes}
+use Rattle.ctap_message.specs.Responses.{created_answer, assertion_answer, info_answer}
+use Rattle.authn_core.specs.declared.replies.Presence.{Presence}
+use Rattle.authn_core.specs.declared.replies.NewKey.{NewKey}
 use Rattle.authn_core.specs.declared.replies.Presence.TheVariants.{Granted, Denied, TimedOut}
-use Rattle.authn_core.specs.{Marks.CredentialChange, Marks.TimedEvent, Marks.replaces_credential, Turn.Start}
-use Rattle.authn_core.specs.State.{AssertState, Event, Request, PresenceIs, KeyIs, SignatureIs, Cancel, Drop, Answer}
-use Rattle.authn_core.specs.State.{Answered, Waits, Ignored, Nothing}
-use Rattle.authn_core.specs.Exchanges.{Exchange, PendingRequest, begin_pending_request, rows_after, pending_request}
-use Rattle.authn_core.specs.Assertions.{assertion_for, may_continue_series, latest_series}
+
+-- The history of an authenticator: its events with their answers, newest first. The credentials and the pending
+-- request, on which later answers depend, are computed from this list.
+
+-- An event with its time, its answer, and its effect on the credentials.
+pub record Exchange : Type 0 where
+  pub at : ℕ
+  pub event : Event
+  pub answer : Answer
+  pub did : CredentialChange
+
+-- The credentials after a history, in order, except those removed by resets or replaced.
+abbrev pub rows_after : Start → List Exchange → List Row
+rows_after start past = rows_after_changes start.rows (map (λ x. x.did) past)
+
+-- A pending request: its channel, parameters, replies (newest first), KEEPALIVE status, and the history before it.
+pub record PendingRequest : Type 0 where
+  pub cid : ℕ
+  pub asked : ParsedRequest
+  pub took : List Event
+  pub status : ℕ
+  pub before : List Exchange
+
+-- The pending request that a valid request begins, or None for an invalid request.
+abbrev pub begin_pending_request : (cid status : ℕ) → List Exchange → Result ParsedRequest ℕ → Option PendingRequest
+begin_pending_request cid status past (Ok asked) =
+    Some (record { cid = cid; asked = asked; took = []; status = status; before = past })
+begin_pending_request cid status past (Err code) = None
+
+-- The pending request after an event. A request without an immediate response becomes pending, a reply that is needed
+-- is recorded with it, and a response or a drop ends it.
+abbrev pub pending_after : Event → Answer → List Exchange → Option PendingRequest → Option PendingRequest
+pending_after (Request cid bytes) (Waits status) past older = begin_pending_request cid status past (read_of bytes)
+pending_after reply (Waits status) past older =
+    option_map (λ (u : PendingRequest). record u { took = reply ∷ u.took; status = status }) older
+pending_after event Ignored past older = older
+pending_after event answer past older = None
+
+-- The pending request after a history, if any.
+unfoldable pub pending_request : List Exchange → Option PendingRequest
+pending_request [] = None
+pending_request (x ∷ past) = pending_after x.event x.answer past (pending_request past)
+
+-- The channel and the KEEPALIVE status of the pending request.
+abbrev pub work_of_request : Option PendingRequest → Option Work
+work_of_request o = option_map (λ (u : PendingRequest). record { cid = u.cid; status = u.status }) o
+
+-- ---- the credential that signs an assertion, as a function of the earlier events (CTAP 2.1, sections 6.2.2 and 6.3)
+
+-- The IDs of the applicable credentials: the first ID in the allow list that belongs to the RP or, without an allow
+-- list, those of all its discoverable credentials, newest first (CTAP 2.1, section 6.2.2).
+abbrev pub applicable_ids : List Row → (rp : List ℕ) → (given : Bool) → (allow : List (List ℕ)) → List (List ℕ)
+applicable_ids rows rp given allow =
+    if given then take 1 (filter (λ id. list_any (λ r. bytes_eq r.rp rp && bytes_eq r.id id) rows) allow)
+    else map (λ r. r.id) (reverse (filter (λ r. r.discoverable && bytes_eq r.rp rp) rows))
+
+-- The value of numberOfCredentials, if any (CTAP 2.1, section 6.2.2).
+abbrev pub number_of_applicable : (given : Bool) → ℕ → Option ℕ
+number_of_applicable given n = if given then None else if nat_le n 1 then None else Some n
+
+-- ---- the newest getAssertion, which getNextAssertion continues
+
+-- The newest getAssertion that became pending, the history before it, and the events since, newest first.
+pub record AssertionSeries : Type 0 where
+  pub cid : ℕ
+  pub hash : List ℕ
+  pub rp : List ℕ
+  pub given : Bool
+  pub allow : List (List ℕ)
+  pub presence : Bool
+  pub before : List Exchange
+  pub since : List Exchange
+
+-- The series that begins with a valid getAssertion.
+abbrev pub new_series : (cid : ℕ) → List Exchange → Result ParsedRequest ℕ → Option AssertionSeries
+new_series cid past (Ok (GetAssertion hash rp_id allow presence)) =
+    Some (record {
+      cid = cid;
+      hash = hash;
+      rp = sha256 rp_id;
+      given = has_entries allow;
+      allow = ids_of allow;
+      presence = presence;
+      before = past;
+      since = [];
+    })
+new_series cid past read = None
+
+-- The series that an event begins, if it is a getAssertion that becomes pending.
+abbrev pub begins_series : Event → Answer → List Exchange → Option AssertionSeries
+begins_series (Request cid bytes) (Waits status) past = new_series cid past (read_of bytes)
+begins_series event answer past = None
+
+-- The newest series.
+unfoldable pub latest_series : List Exchange → Option AssertionSeries
+latest_series [] = None
+latest_series (x ∷ past) =
+    option_or (begins_series x.event x.answer past)
+    (option_map (λ (s : AssertionSeries). record s { since = x ∷ s.since }) (latest_series past))
+
+-- Whether the request is getNextAssertion.
+abbrev pub is_get_next_assertion : Result ParsedRequest ℕ → Bool
+is_get_next_assertion (Ok GetNextAssertion) = true
+is_get_next_assertion read = false
+
+-- Whether the event continues the series: a pending getNextAssertion, a recorded or ignored reply, or a signature with
+-- a response.
+abbrev pub continues_series : Event → Answer → Bool
+continues_series (Request cid bytes) (Waits status) = is_get_next_assertion (read_of bytes)
+continues_series reply (Waits status) = true
+continues_series (SignatureIs (Some sig)) (Answered bytes) = true
+continues_series event Ignored = true
+continues_series event answer = false
+
+-- Whether the event completes an assertion.
+abbrev pub answers_assertion : Event → Answer → Bool
+answers_assertion (SignatureIs (Some sig)) (Answered bytes) = true
+answers_assertion event answer = false
+
+-- The completed assertions of a series, newest first.
+abbrev pub answered_assertions : AssertionSeries → List Exchange
+answered_assertions s = filter (λ x. answers_assertion x.event x.answer) s.since
+
+-- Whether at most 30,000 ms passed since the last assertion (CTAP 2.1, section 6.3).
+abbrev pub is_in_time : (now : ℕ) → List Exchange → Bool
+is_in_time now [] = false
+is_in_time now (x ∷ older) = nat_le now (x.at + 30000)
+
+-- Whether getNextAssertion continues the series: no other event, same channel, in time.
+abbrev pub may_continue_series : (now cid : ℕ) → Option AssertionSeries → Bool
+may_continue_series now cid None = false
+may_continue_series now cid (Some s) =
+    list_all (λ x. continues_series x.event x.answer) s.since && (s.cid == cid && is_in_time now (answered_assertions s))
+
+-- ---- the assertion that a request begins
+
+-- The assertion with this credential, if any.
+abbrev pub assertion_by : (hash rp : List ℕ) (presence : Bool) → (number : Option ℕ) → Option (List ℕ) → Option AssertState
+assertion_by hash rp presence number None = None
+assertion_by hash rp presence number (Some id) =
+    Some (record { hash = hash; rp = rp; id = id; presence = presence; number = number })
+
+-- The next assertion of a series, if any.
+abbrev pub next_assertion : Start → Option AssertionSeries → Option AssertState
+next_assertion start None = None
+next_assertion start (Some s) =
+    assertion_by s.hash s.rp s.presence None
+    (slice_get (applicable_ids (rows_after start s.before) s.rp s.given s.allow) (length (answered_assertions s)))
+
+-- The assertion that a request begins after this history, or None.
+abbrev pub assertion_for : Start → List Exchange → ParsedRequest → Option AssertState
+assertion_for start past (GetAssertion hash rp_id allow presence) =
+    let given = has_entries allow in let ids = applicable_ids (rows_after start past) (sha256 rp_id) given (ids_of allow) in
+    assertion_by hash (sha256 rp_id) presence (number_of_applicable given (length ids)) (slice_get ids 0)
+assertion_for start past GetNextAssertion = next_assertion start (latest_series past)
+assertion_for start past asked = None
+
+-- ---- the parts of answers (CTAP 2.1, sections 6 and 8.2)
+
+-- The comment after each error status is its name in section 8.2.
 
 -- A response that consists of this status byte alone.
 abbrev pub status_response : ℕ → Answer
@@ -85,7 +248,7 @@ abbrev pub sign_count : Option Row → ℕ
 sign_count None = 0
 sign_count (Some r) = r.counter
 
--- The answer when an assertion begins: an error if the signature counter is at its maximum.
+-- The answer when an assertion begins: `none` without one, an error at the maximum signature counter.
 abbrev pub begin_assertion_answer : List Row → (none waits : Answer) → Option AssertState → Answer
 begin_assertion_answer rows none waits None = none
 begin_assertion_answer rows none waits (Some a) =
@@ -108,7 +271,7 @@ assertion_signature_answer rows (Some a) (Some sig) =
 -- ---- answers to events
 
 -- The answer to a request.
-abbrev pub request_answer : Start → List Exchange → (now cid : ℕ) → Result RequestParameters ℕ → Answer
+abbrev pub request_answer : Start → List Exchange → (now cid : ℕ) → Result ParsedRequest ℕ → Answer
 request_answer start past now cid (Err code) = status_response code
 request_answer start past now cid (Ok GetInfo) = Answered (info_answer start.aaguid)
 request_answer start past now cid (Ok Selection) = presence_needed
@@ -127,7 +290,7 @@ request_answer start past now cid (Ok GetNextAssertion) =
 
 -- The answer to a reply for the pending request. `took` are its earlier replies, newest first. A reply that isn't
 -- needed is ignored.
-abbrev pub reply_answer : Start → List Row → Option AssertState → RequestParameters → (took : List Event) → (reply : Event) → Answer
+abbrev pub reply_answer : Start → List Row → Option AssertState → ParsedRequest → (took : List Event) → (reply : Event) → Answer
 reply_answer start rows a Reset [] (PresenceIs reply) = consent_answer reply
 reply_answer start rows a Selection [] (PresenceIs reply) = consent_answer reply
 reply_answer start rows a (MakeCredential hash rp_id user_id user_name discoverable exclude) [] (PresenceIs reply) =
@@ -167,7 +330,7 @@ assertion_id None = None
 assertion_id (Some a) = Some a.id
 
 -- The credential that this request creates when it is signed, if any (CTAP 2.1, section 6.1.2).
-abbrev pub new_credential : RequestParameters → (took : List Event) → Option Row
+abbrev pub new_credential : ParsedRequest → (took : List Event) → Option Row
 new_credential (MakeCredential hash rp_id user_id user_name discoverable exclude) (KeyIs (Some key) ∷ took) = Some (record {
   rp = sha256 rp_id;
   id = key.id;
@@ -197,7 +360,7 @@ requested_assertion start None = None
 requested_assertion start (Some u) = assertion_for start u.before u.asked
 
 -- Whether the reply grants a reset (CTAP 2.1, section 6.6).
-abbrev pub is_reset_granted : RequestParameters → (reply : Event) → Bool
+abbrev pub is_reset_granted : ParsedRequest → (reply : Event) → Bool
 is_reset_granted Reset (PresenceIs Granted) = true
 is_reset_granted asked reply = false
 

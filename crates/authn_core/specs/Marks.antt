@@ -1,13 +1,19 @@
+-- The credentials after a history of events, and their signature counters (CTAP 2.1, section 6).
+use Rattle.std.specs.Prelude.{ℕ, ◌+◌, List, [], ◌∷◌, ◌++◌, length, flat_map, Bool, true, false, ◌&&◌, not}
+use Rattle.std.specs.Prelude.{if◌then◌else◌, Option, Some, None, option_to_list, ◌≡◌, ◌==◌, nat_lt, ◌||◌}
+use Rattle.std.specs.List.{filter, list_any}
+use Rattle.std.specs.Str.{bytes_eq}
+use Rattle.cred_table.specs.declared.row.Row.{Row}
+use Rattle.cred_table.specs.Rows.{has_id, counter_of}
+use Rattle.authn_core.specs.declared.replies.Presence.TheVariants.{Granted}
+use Rattle.authn_core.specs.Turn.{new_row, CoreState, core_after}
+use Rattle.authn_core.specs.State.{SignatureIs, Task, AwaitResetPresence, AwaitMakeSignature, AwaitAssertSignature}
+use Rattle.authn_core.specs.State.{PendingTask, Event, Request, PresenceIs, State}
+use Rattle.authn_core.specs.Views.{needs, sign}
+
 -- The credentials after a history of events, computed from the change that each event makes: it creates a credential,
 -- increments a signature counter, or removes all credentials (WebAuthn Level 2, sections 6.1.1 and 6.3). Also, the
 -- assertions to sign in a history.
-use Rattle.std.specs.Prelude.{ℕ, ◌+◌, List, [], ◌∷◌, ◌++◌, length, flat_map, Bool, true, false, ◌&&◌, not}
-use Rattle.std.specs.Prelude.{if◌then◌else◌, Option, Some, None, option_to_list, ◌≡◌, ◌==◌}
-use Rattle.std.specs.{List.filter, List.list_any, Str.bytes_eq}
-use Rattle.cred_table.specs.{declared.row.Row.Row, Rows.has_id}
-use Rattle.authn_core.specs.{declared.replies.Presence.TheVariants.Granted, MakeCredential.new_row, State.SignatureIs}
-use Rattle.authn_core.specs.State.{Task, AwaitResetPresence, AwaitMakeSignature, AwaitAssertSignature, PendingTask, Event, Request, PresenceIs}
-use Rattle.authn_core.specs.Turn.{CoreState, core_after}
 
 -- The credential that an event creates, the ID whose signature counter it increments, and whether it removes all
 -- credentials.
@@ -175,3 +181,33 @@ is_same_assertion a b = bytes_eq a.id b.id && (a.making == b.making && a.counter
 abbrev pub all_differ : List SignedAssertion → Bool
 all_differ [] = true
 all_differ (t ∷ ts) = not (list_any (is_same_assertion t) ts) && all_differ ts
+
+-- The signature counter of each credential increases: the bytes to sign for an assertion contain a greater counter than
+-- those of all earlier assertions by the same credential (WebAuthn Level 2, sections 6.1.1 and 7.2, step 21).
+
+-- Whether the same credential signs both assertions.
+abbrev pub is_same_credential : SignedAssertion → SignedAssertion → Bool
+is_same_credential a b = bytes_eq a.id b.id && a.making == b.making
+
+-- Whether the signature counter is greater than those of all other entries by the same credential.
+abbrev pub exceeds_all : SignedAssertion → List SignedAssertion → Bool
+exceeds_all t [] = true
+exceeds_all t (older ∷ past) = (not (is_same_credential t older) || nat_lt older.counter t.counter) && exceeds_all t past
+
+-- Whether the signature counters of each credential increase strictly. The list is newest first.
+abbrev pub counters_increase : List SignedAssertion → Bool
+counters_increase [] = true
+counters_increase (t ∷ past) = exceeds_all t past && counters_increase past
+
+-- In this state, a signature by this credential with this signature counter is pending.
+pub record IsPendingSignature (t : SignedAssertion) (s : State) : Type 0 where
+  pub signed : List ℕ
+  pub needed : needs s.work ≡ sign t.id signed
+  pub counter : counter_of t.id s.rows ≡ t.counter
+
+-- In this state, the signature of the newest entry, which is the first one, is pending.
+pub record IsNewest (ts : List SignedAssertion) (s : State) : Type 0 where
+  pub text : SignedAssertion
+  pub past : List SignedAssertion
+  pub first : ts ≡ text ∷ past
+  pub told : IsPendingSignature text s

@@ -3,10 +3,10 @@
 -- (sections 6.3.2 and 8.2).
 use Rattle.std.specs.Prelude.{ℕ, ◌≡◌, ◌⊎◌, List, [], ◌∷◌, ◌++◌, Bool, true, false, Option, Some, None, option_map}
 use Rattle.std.specs.{Prelude.Result, Prelude.Ok, Prelude.Err, List.AllByRecursion, List.find}
-use Rattle.cred_table.specs.{declared.row.Row.Row, Waiting.PendingAssertions, Rows.has_id, Rows.counter_of}
+use Rattle.cred_table.specs.{declared.row.Row.Row, Rows.PendingAssertions, Rows.has_id, Rows.counter_of}
 use Rattle.fido_authdata.specs.AuthData.{assertion_bytes, created_bytes}
-use Rattle.ctap_message.specs.Asked.{RequestParameters, MakeCredential, GetAssertion, GetNextAssertion}
-use Rattle.ctap_message.specs.{Answers.created_answer, Answers.assertion_answer, Requests.read_of}
+use Rattle.ctap_message.specs.Requests.{ParsedRequest, MakeCredential, GetAssertion, GetNextAssertion}
+use Rattle.ctap_message.specs.{Responses.created_answer, Responses.assertion_answer, Requests.read_of}
 use Rattle.authn_core.specs.declared.replies.{Presence.TheVariants.Granted, NewKey.NewKey}
 use Rattle.sha2.specs.Sha256.{sha256}
 use Rattle.authn_core.specs.{Marks.TimedEvent, Marks.created_by_event, Views.Needed, Views.sign}
@@ -18,12 +18,12 @@ use Rattle.authn_core.specs.State.{PendingTask, State, Event, Request, PresenceI
 -- The newest request, unless it is invalid; getNextAssertion doesn't count. Also, whether the user consented since
 -- then, and the keys that the caller supplied.
 pub record LatestRequests : Type 0 where
-  pub asked : Option RequestParameters
+  pub asked : Option ParsedRequest
   pub granted : Bool
   pub keys : List NewKey
 
 -- The value of `LatestRequests` after a request.
-abbrev pub with_request : LatestRequests → Result RequestParameters ℕ → LatestRequests
+abbrev pub with_request : LatestRequests → Result ParsedRequest ℕ → LatestRequests
 with_request h (Err code) = record h { asked = None; granted = false }
 with_request h (Ok GetNextAssertion) = h
 with_request h (Ok asked) = record h { asked = Some asked; granted = false }
@@ -46,8 +46,8 @@ IsAmong key [] = ⊥
 IsAmong key (k ∷ keys) = (key ≡ k) ⊎ IsAmong key keys
 
 -- The RP ID hash of the credential with this ID, if any.
-abbrev pub rp_of : (id : List ℕ) → List Row → Option (List ℕ)
-rp_of id rows = option_map (λ (r : Row). r.rp) (find (has_id id) rows)
+abbrev pub rp_id_hash_of : (id : List ℕ) → List Row → Option (List ℕ)
+rp_id_hash_of id rows = option_map (λ (r : Row). r.rp) (find (has_id id) rows)
 
 -- ---- the bytes to sign, and the response
 
@@ -56,10 +56,10 @@ rp_of id rows = option_map (λ (r : Row). r.rp) (find (has_id id) rows)
 -- 6.3.3). For a new credential, they are the authenticator data with the ID and public key of a key that the caller
 -- supplied, followed by the client data hash (sections 6.3.2, 6.5.1 and 8.2). If UP is set, the user consented. No
 -- other bytes are signed.
-abbrev pub IsToSign : (aaguid : List ℕ) → LatestRequests → List Row → (id signed : List ℕ) → Option RequestParameters → Type 0
+abbrev pub IsToSign : (aaguid : List ℕ) → LatestRequests → List Row → (id signed : List ℕ) → Option ParsedRequest → Type 0
 IsToSign aaguid h rows id signed (Some (GetAssertion hash rp_id allow presence)) =
     (signed ≡ assertion_bytes (sha256 rp_id) presence (counter_of id rows) ++ hash)
-    × (rp_of id rows ≡ Some (sha256 rp_id)) × (presence ≡ true → h.granted ≡ true)
+    × (rp_id_hash_of id rows ≡ Some (sha256 rp_id)) × (presence ≡ true → h.granted ≡ true)
 IsToSign aaguid h rows id signed (Some (MakeCredential hash rp_id user_id user_name discoverable exclude)) =
     (key : NewKey) × IsAmong key h.keys × (key.id ≡ id)
     × (signed ≡ created_bytes (sha256 rp_id) aaguid key.id key.x key.y ++ hash) × (h.granted ≡ true)
@@ -73,7 +73,7 @@ IsNeeded aaguid h rows n = Unit {0}
 -- The response to a signature. For an assertion, it contains the credential ID and the authenticator data; for a new
 -- credential, it contains the authenticator data of the created row. In both cases the authenticator data, followed by
 -- the client data hash, is exactly the bytes that were signed.
-abbrev pub IsSigned : (aaguid : List ℕ) → Option PendingTask → (id signed sig : List ℕ) → Answer → Option RequestParameters → Type 0
+abbrev pub IsSigned : (aaguid : List ℕ) → Option PendingTask → (id signed sig : List ℕ) → Answer → Option ParsedRequest → Type 0
 IsSigned aaguid work id signed sig answer (Some (GetAssertion hash rp_id allow presence)) =
     (data_signed : List ℕ) × (user : Option (List ℕ)) × (number : Option ℕ)
     × (answer ≡ Answered (assertion_answer id data_signed sig user number)) × (data_signed ++ hash ≡ signed)
@@ -92,23 +92,23 @@ pub record Claim : Type 0 where
   pub hash : List ℕ
 
 -- The parameters of a getAssertion on which an assertion depends, or None for other requests.
-abbrev pub assertion_asked : Option RequestParameters → Option Claim
+abbrev pub assertion_asked : Option ParsedRequest → Option Claim
 assertion_asked (Some (GetAssertion hash rp_id allow presence)) =
     Some (record { rp = sha256 rp_id; presence = presence; hash = hash })
 assertion_asked asked = None
 
 -- The RP ID hash and the client data hash of a makeCredential, or None for other requests.
-abbrev pub creation_asked : Option RequestParameters → Option (List ℕ × List ℕ)
+abbrev pub creation_asked : Option ParsedRequest → Option (List ℕ × List ℕ)
 creation_asked (Some (MakeCredential hash rp_id user_id user_name discoverable exclude)) = Some (sha256 rp_id, hash)
 creation_asked asked = None
 
 -- The assertion belongs to the newest request.
-abbrev pub IsAssertionFor : Option RequestParameters → List Row → AssertState → Type 0
+abbrev pub IsAssertionFor : Option ParsedRequest → List Row → AssertState → Type 0
 IsAssertionFor asked rows a = (assertion_asked asked ≡ Some (record { rp = a.rp; presence = a.presence; hash = a.hash }))
-    × (rp_of a.id rows ≡ Some a.rp)
+    × (rp_id_hash_of a.id rows ≡ Some a.rp)
 
 -- The new credential belongs to the newest request.
-abbrev pub IsCreationFor : Option RequestParameters → MakeState → Type 0
+abbrev pub IsCreationFor : Option ParsedRequest → MakeState → Type 0
 IsCreationFor asked m = creation_asked asked ≡ Some (m.rp, m.hash)
 
 -- The bytes that the task signs belong to the newest request.
@@ -129,10 +129,10 @@ WorkSignsFor aaguid h rows (Some work) = TaskSignsFor aaguid h rows work.task
 
 -- Each ID belongs to a credential of the RP.
 abbrev pub AreRpCredentials : (rp : List ℕ) → List Row → List (List ℕ) → Type 0
-AreRpCredentials rp rows ids = AllByRecursion (λ id. rp_of id rows ≡ Some rp) ids
+AreRpCredentials rp rows ids = AllByRecursion (λ id. rp_id_hash_of id rows ≡ Some rp) ids
 
 -- The pending assertions belong to the newest request.
-abbrev pub PendingFor : Option RequestParameters → List Row → Option PendingAssertions → Type 0
+abbrev pub PendingFor : Option ParsedRequest → List Row → Option PendingAssertions → Type 0
 PendingFor asked rows None = Unit {0}
 PendingFor asked rows (Some w) = (rp : List ℕ)
     × (assertion_asked asked ≡ Some (record { rp = rp; presence = w.presence; hash = w.hash })) × AreRpCredentials rp rows w.ids

@@ -1,9 +1,45 @@
--- The state of an authenticator between events, its events, and its answers (CTAP 2.1, section 6).
+-- The state of an authenticator between events, its events and its answers (CTAP 2.1, section 6).
 use Rattle.std.specs.Prelude.{ℕ, ◌+◌, List, [], ◌∷◌, ◌++◌, Bool, Option, Some, None}
-use Rattle.cred_table.specs.{declared.row.Row.Row, Waiting.PendingAssertions, Rows.rows_incremented, Rows.counter_of}
+use Rattle.authn_core.specs.declared.replies.Presence.{Presence}
+use Rattle.authn_core.specs.declared.replies.Presence.TheVariants.{Denied as UserDenied}
+use Rattle.authn_core.specs.declared.refusal.Refusal.{Refusal}
+use Rattle.authn_core.specs.declared.refusal.Refusal.TheVariants.{BadRequest, Cancelled, Denied, NoConsentInTime}
+use Rattle.authn_core.specs.declared.refusal.Refusal.TheVariants.{TimedOut, Excluded, Full, KeyRefused, KeyIdTaken}
+use Rattle.authn_core.specs.declared.refusal.Refusal.TheVariants.{SignatureRefused, NoCredential, CounterSpent}
+use Rattle.authn_core.specs.declared.refusal.Refusal.TheVariants.{NothingPending, PendingElsewhere, NextTooLate}
+use Rattle.authn_core.specs.declared.refusal.Refusal.TheVariants.{ResetTooLate}
+use Rattle.cred_table.specs.declared.row.Row.{Row}
+use Rattle.cred_table.specs.Rows.{PendingAssertions, rows_incremented, counter_of}
 use Rattle.fido_authdata.specs.AuthData.{assertion_bytes}
-use Rattle.authn_core.specs.declared.{replies.Presence.Presence, replies.NewKey.NewKey, refusal.Refusal.Refusal}
-use Rattle.authn_core.specs.Refusals.{status_of}
+use Rattle.authn_core.specs.declared.replies.NewKey.{NewKey}
+
+-- ---- why a command is refused, and the status of its response (CTAP 2.1, section 8.2, "Status codes")
+
+-- The status code of an error (CTAP 2.1, section 8.2).
+abbrev pub status_of : Refusal → ℕ
+status_of (BadRequest status) = status
+status_of Cancelled = 0x2d  -- KEEPALIVE_CANCEL
+status_of Denied = 0x27  -- OPERATION_DENIED
+status_of NoConsentInTime = 0x27  -- OPERATION_DENIED
+status_of TimedOut = 0x2f  -- USER_ACTION_TIMEOUT
+status_of Excluded = 0x19  -- CREDENTIAL_EXCLUDED
+status_of Full = 0x28  -- KEY_STORE_FULL
+status_of KeyRefused = 0x7f  -- OTHER
+status_of KeyIdTaken = 0x7f  -- OTHER
+status_of SignatureRefused = 0x7f  -- OTHER
+status_of (NoCredential listed) = 0x2e  -- NO_CREDENTIALS
+status_of CounterSpent = 0x15  -- LIMIT_EXCEEDED
+status_of NothingPending = 0x30  -- NOT_ALLOWED
+status_of (PendingElsewhere channel) = 0x30  -- NOT_ALLOWED
+status_of (NextTooLate since at) = 0x30  -- NOT_ALLOWED
+status_of (ResetTooLate since at) = 0x30  -- NOT_ALLOWED
+
+-- The error if the user refuses to create or use a credential, or doesn't react in time.
+abbrev pub presence_refusal : Presence → Refusal
+presence_refusal UserDenied = Denied
+presence_refusal reply = NoConsentInTime
+
+-- ---- the state between events, the events, and the answers
 
 -- The configuration, which never changes: AAGUID, time of power-up in milliseconds, and capacity.
 pub record Setup : Type 0 where
@@ -11,7 +47,8 @@ pub record Setup : Type 0 where
   pub began : ℕ
   pub capacity : ℕ
 
--- A credential to create: the client data hash, the RP ID hash, the user, and whether it is discoverable.
+-- A credential to create: the client data hash, the RP ID hash, the user handle and name, and whether it is
+-- discoverable.
 pub record MakeState : Type 0 where
   pub hash : List ℕ
   pub rp : List ℕ

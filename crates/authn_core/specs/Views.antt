@@ -1,25 +1,45 @@
--- Conversions of the code's values to those of the specification.
-use Rattle.std.specs.Prelude.{◌≡◌, ℕ, max, min, List, Bool, true, false, Option, Some, None}
+-- Conversions of the values of the code to those of the specification.
+use Rattle.std.specs.Prelude.{ℕ, List, pos, negsuc, ◌≡◌, max, min, Bool, true, false, Option, Some, None, ◌≤◌, length}
+use Rattle.std.specs.Prelude.{◌-◌, ◌++◌, take, drop, replicate}
+use Rattle.ctap_cbor.specs.Tree.{Int, Bytes, Tree, Plain, Map, no_pairs, pair}
 use Rattle.authn_core.specs.declared.authenticator.Turn.{Turn}
-use Rattle.authn_core.specs.declared.authenticator.Turn.TheVariants as turns
 use Rattle.authn_core.specs.declared.authenticator.Need.{Need}
-use Rattle.authn_core.specs.declared.authenticator.Need.TheVariants as need
 use Rattle.authn_core.specs.declared.refusal.Refusal.{Refusal}
 use Rattle.authn_core.specs.declared.work.KeepaliveStatus.{KeepaliveStatus}
 use Rattle.authn_core.specs.declared.work.KeepaliveStatus.TheVariants.{Processing, PresenceNeeded}
 use Rattle.authn_core.specs.declared.work.Work.{Work as WaitingWork}
 use Rattle.authn_core.specs.declared.event.Event.{Event as Happening}
-use Rattle.authn_core.specs.declared.event.Event.TheVariants as happening
 use Rattle.ctap_message.specs.Requests.{steps_of, MAX_STEPS}
 use Rattle.authn_core.specs.Turn.{Work, CoreContents, Start, core_after, core_answer, first_state}
 use Rattle.authn_core.specs.declared.task.MakeState.{MakeState as MakingKept}
 use Rattle.authn_core.specs.declared.task.AssertState.{AssertState as AssertingKept}
 use Rattle.authn_core.specs.declared.task.Task.{Task as TaskKept}
-use Rattle.authn_core.specs.declared.task.Task.TheVariants as kept
 use Rattle.authn_core.specs.declared.task.PendingTask.{PendingTask as ChannelTaskKept}
-use Rattle.authn_core.specs.State.{MakeState, AssertState, Task, AwaitResetPresence, AwaitSelectionPresence, AwaitMakePresence, AwaitKeyPair, AwaitMakeSignature, AwaitAssertPresence}
-use Rattle.authn_core.specs.State.{AwaitAssertSignature, PendingTask, Event, Request, PresenceIs, KeyIs, SignatureIs, Cancel}
-use Rattle.authn_core.specs.State.{Drop, Answer, Answered, Waits, Ignored, Nothing, TurnResult, status}
+use Rattle.authn_core.specs.State.{MakeState, AssertState, Task, AwaitResetPresence, AwaitSelectionPresence}
+use Rattle.authn_core.specs.State.{AwaitMakePresence, AwaitKeyPair, AwaitMakeSignature, AwaitAssertPresence}
+use Rattle.authn_core.specs.State.{AwaitAssertSignature, PendingTask, Event, Request, PresenceIs, KeyIs, SignatureIs}
+use Rattle.authn_core.specs.State.{Cancel, Drop, Answer, Answered, Waits, Ignored, Nothing, TurnResult, status}
+use Rattle.std.proofs.Common.{ap, ◌∙◌, sym, arith}
+use Rattle.std.proofs.lemmas.List.{take-append-drop, length-take-le}
+use Rattle.authn_core.specs.declared.by_value.Turn.{Turn as TurnByValue}
+use Rattle.authn_core.specs.declared.authenticator.Turn.TheVariants as turns
+use Rattle.authn_core.specs.declared.authenticator.Need.TheVariants as need
+use Rattle.authn_core.specs.declared.event.Event.TheVariants as happening
+use Rattle.authn_core.specs.declared.task.Task.TheVariants as kept
+use Rattle.authn_core.specs.declared.by_value.Turn.TheVariants as turns_by_value
+
+-- ---- the public key of an ES256 credential as a CBOR map (RFC 8152, sections 7.1, 8.1 and 13.1.1)
+
+-- The COSE key {1: 2, 3: -7, -1: 1, -2: x, -3: y}. `negsuc n` is the integer -1 - n.
+abbrev pub cose_key_tree : (x y : List ℕ) → Tree
+cose_key_tree x y =
+    Map (pair (Plain (Int (pos 1))) (Plain (Int (pos 2)))
+    (pair (Plain (Int (pos 3))) (Plain (Int (negsuc 6)))
+    (pair (Plain (Int (negsuc 0))) (Plain (Int (pos 1)))
+    (pair (Plain (Int (negsuc 1))) (Plain (Bytes x))
+    (pair (Plain (Int (negsuc 2))) (Plain (Bytes y)) no_pairs)))))
+
+-- ---- the code's tasks, events and answers
 
 -- The KEEPALIVE status as a byte.
 abbrev pub status_number : KeepaliveStatus → ℕ
@@ -170,3 +190,30 @@ wants_key work = is_key (needs work)
 -- Whether the pending task needs a signature.
 abbrev pub wants_signature : Option PendingTask → Bool
 wants_signature work = is_sign (needs work)
+
+-- ---- the lengths of the credential ID and of the bytes to sign, when a signature is needed
+
+-- If a signature is needed, the credential ID has 32 bytes, and at most 196 bytes are to be signed.
+abbrev pub IsValidNeed : Needed → Type 0
+IsValidNeed nothing = Unit {0}
+IsValidNeed presence = Unit {0}
+IsValidNeed key = Unit {0}
+IsValidNeed (sign id signed) = (length id ≡ 32) × (length signed ≤ 196)
+
+-- ---- the results of the module `by_value` as answers of the specification
+
+-- Converts the code's `Turn` to an `Answer`.
+abbrev pub valued_answer : TurnByValue → Answer
+valued_answer (turns_by_value.Answer response) = Answered response.items
+valued_answer (turns_by_value.Waits status) = Waits status
+valued_answer turns_by_value.Ignored = Ignored
+
+-- Replaces the answer to a dropped request by `Ignored`: neither has a response.
+abbrev pub without_drops : Answer → Answer
+without_drops Nothing = Ignored
+without_drops answer = answer
+
+-- Like `IsTurn`, for the module `by_value`, whose answer to a dropped request is `Ignored`.
+abbrev pub IsTurnByValue : (old new : CoreContents) → TurnByValue → (at : ℕ) → Event → Type 0
+IsTurnByValue old new result at e = IsTurn old new (core_answer old.core (max old.latest at) e) at e
+    × (valued_answer result ≡ without_drops (core_answer old.core (max old.latest at) e))

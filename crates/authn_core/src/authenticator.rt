@@ -3,10 +3,10 @@
 ghost use Rattle.std.specs.Prelude.{◌≡◌, ◌≤◌, max, option_map, length, List, Ok, MatchResult};
 ghost use Rattle.cred_table.specs.declared.row.Row.{Row as AnyRow};
 ghost use Rattle.cred_table.specs.Snapshots.{Loads, Refuses};
-ghost use Rattle.cred_table.specs.Waiting.{pending_count};
+ghost use Rattle.cred_table.specs.Rows.{pending_count};
 ghost use Rattle.authn_core.specs.State.{Request as Asks, PresenceIs, KeyIs, SignatureIs, Cancel, Drop as DropWork, Nothing};
 ghost use Rattle.authn_core.specs.Turn.{waiting, core_refusal};
-ghost use Rattle.authn_core.specs.Needs.{IsValidNeed};
+ghost use Rattle.authn_core.specs.Views.{IsValidNeed};
 ghost use Rattle.authn_core.specs.Views.{IsTurn, to_answer, refusal_of, first_contents, to_event, needs, to_needed, is_presence, is_key, is_sign, sign as needs_sign, to_work};
 
 use crate::event::Event;
@@ -113,7 +113,7 @@ pub struct Core<T: Table<C>, const C: usize> {
 impl<T: Table<C>, const C: usize> Model for Core<T, C> {
     ghost use Rattle.std.specs.Prelude.{◌≤◌, option_map};
     ghost use Rattle.authn_core.specs.Turn.{CoreContents};
-    ghost use Rattle.authn_core.specs.Ready.{Ready, WorkSignsItsResponse};
+    ghost use Rattle.authn_core.specs.Turn.{Ready, WorkSignsItsResponse};
     ghost use Rattle.authn_core.specs.Views.{to_pending_task};
 
     ghost Value = { CoreContents };

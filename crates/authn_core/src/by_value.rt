@@ -1,10 +1,10 @@
 //! The authenticator with responses by value: each call returns the response, which copies a buffer of 262 bytes.
 
 ghost use Rattle.std.specs.Prelude.{◌≡◌, ◌≤◌, List, ℕ, length};
-ghost use Rattle.cred_table.specs.Waiting.{pending_count};
-ghost use Rattle.authn_core.specs.ByValue.{TakesByValue, valued_answer, without_drops};
+ghost use Rattle.cred_table.specs.Rows.{pending_count};
+ghost use Rattle.authn_core.specs.Views.{IsTurnByValue, valued_answer, without_drops};
 ghost use Rattle.authn_core.specs.State.{Request as Asks, PresenceIs, KeyIs, SignatureIs, Cancel, Drop as DropWork, Nothing};
-ghost use Rattle.authn_core.specs.Needs.{IsValidNeed};
+ghost use Rattle.authn_core.specs.Views.{IsValidNeed};
 ghost use Rattle.authn_core.specs.Views.{IsTurn, first_contents, needs, to_answer, to_needed};
 
 use crate::authenticator::{self, Config, Need};
@@ -64,7 +64,7 @@ impl<T: Table<C>, const C: usize> Core<T, C> {
     /// Handles a request on the channel `cid` at time `at`. `message` consists of the command byte and the parameters.
     /// A request that was pending ends without a response.
     pub fn request(&mut self, at: u64, cid: u32, message: &[u8]) -> Turn
-        ensures { TakesByValue self.old self.new result at (Asks cid message.now) }
+        ensures { IsTurnByValue self.old self.new result at (Asks cid message.now) }
     {
         let mut answer = Answer::new();
         let turn = self.inner.request(at, cid, message, &mut answer);
@@ -73,7 +73,7 @@ impl<T: Table<C>, const C: usize> Core<T, C> {
 
     /// Handles a user presence reply.
     pub fn presence(&mut self, at: u64, reply: Presence) -> Turn
-        ensures { TakesByValue self.old self.new result at (PresenceIs reply) }
+        ensures { IsTurnByValue self.old self.new result at (PresenceIs reply) }
     {
         let mut answer = Answer::new();
         let turn = self.inner.presence(at, reply, &mut answer);
@@ -82,7 +82,7 @@ impl<T: Table<C>, const C: usize> Core<T, C> {
 
     /// Handles the reply to a key request: a new key pair, or `None` if the caller refuses.
     pub fn key(&mut self, at: u64, key: Option<NewKey>) -> Turn
-        ensures { TakesByValue self.old self.new result at (KeyIs key) }
+        ensures { IsTurnByValue self.old self.new result at (KeyIs key) }
     {
         let mut answer = Answer::new();
         let turn = self.inner.key(at, key, &mut answer);
@@ -91,7 +91,7 @@ impl<T: Table<C>, const C: usize> Core<T, C> {
 
     /// Handles the reply to a signature request: a signature, or `None` if the caller refuses.
     pub fn signature(&mut self, at: u64, signature: Option<Signature>) -> Turn
-        ensures { TakesByValue self.old self.new result at (SignatureIs signature) }
+        ensures { IsTurnByValue self.old self.new result at (SignatureIs signature) }
     {
         let mut answer = Answer::new();
         let turn = self.inner.signature(at, signature, &mut answer);
@@ -100,7 +100,7 @@ impl<T: Table<C>, const C: usize> Core<T, C> {
 
     /// Handles a CANCEL for the pending request.
     pub fn cancel(&mut self) -> Turn
-        ensures { TakesByValue self.old self.new result 0 Cancel }
+        ensures { IsTurnByValue self.old self.new result 0 Cancel }
     {
         let mut answer = Answer::new();
         let turn = self.inner.cancel(&mut answer);

@@ -1,9 +1,9 @@
 //! Passes each event to the command that handles it.
 
 ghost use Rattle.std.specs.Prelude.{None};
-ghost use Rattle.ctap_message.specs.Shown.{parsed_result, IsFresh, HasLengths};
+ghost use Rattle.ctap_message.specs.Views.{parsed_result, IsFresh, HasLengths};
 ghost use Rattle.authn_core.specs.State.{respond_refusal, await_reply};
-ghost use Rattle.authn_core.specs.Ready.{TaskReady, SignsItsResponse};
+ghost use Rattle.authn_core.specs.Turn.{TaskReady, SignsItsResponse};
 ghost use Rattle.authn_core.specs.Turn.{request_turn, reply_turn};
 ghost use Rattle.authn_core.specs.Views.{TakesTurn, TakesWork, to_event, to_task};
 

@@ -1,19 +1,19 @@
 //! Laws about the definitions. Each function has an empty body, and its contract is the law.
 
 ghost use Rattle.std.specs.Prelude.{◌≡◌, ◌≤◌, ℕ, List, ◌∷◌, length, true, Some, None};
-ghost use Rattle.ctap_cbor.specs.Head.{AreBytes};
+ghost use Rattle.ctap_cbor.specs.Grammar.{AreBytes};
 ghost use Rattle.ctap_cbor.specs.Grammar.{IsCanonical};
-ghost use Rattle.fido_authdata.specs.CoseKey.{cose_key_bytes};
+ghost use Rattle.fido_authdata.specs.AuthData.{cose_key_bytes};
 ghost use Rattle.cred_table.specs.Rows.{ValidRows};
-ghost use Rattle.cred_table.specs.Waiting.{pending_count};
-ghost use Rattle.authn_core.specs.CoseTree.{cose_key_tree};
+ghost use Rattle.cred_table.specs.Rows.{pending_count};
+ghost use Rattle.authn_core.specs.Views.{cose_key_tree};
 ghost use Rattle.authn_core.specs.State.{Setup, State, Event as AnyEvent, SignatureIs};
 ghost use Rattle.authn_core.specs.Turn.{CoreState, Start, core_answer, first_state, turn, waiting};
-ghost use Rattle.authn_core.specs.Ready.{Ready};
-ghost use Rattle.authn_core.specs.Rising.{counters_increase, IsPendingSignature, IsNewest};
+ghost use Rattle.authn_core.specs.Turn.{Ready};
+ghost use Rattle.authn_core.specs.Marks.{counters_increase, IsPendingSignature, IsNewest};
 ghost use Rattle.authn_core.specs.Signed.{LatestRequests, IsSigningFor as SignsFor, IsNeeded, IsSigned, with_event, requests_of};
 ghost use Rattle.authn_core.specs.Views.{needs, sign};
-ghost use Rattle.authn_core.specs.Exchanges.{rows_after, pending_request, work_of_request};
+ghost use Rattle.authn_core.specs.Answers.{rows_after, pending_request, work_of_request};
 ghost use Rattle.authn_core.specs.Answers.{answer_to, exchanges};
 ghost use Rattle.authn_core.specs.Marks.{TimedEvent, MayFollow, Orderly, core_at, changes, rows_after_changes, signs_by, signed_assertions, all_differ, SignedAssertion};
 
@@ -88,6 +88,7 @@ pub fn answers_follow_history()
 
 /// States that the bytes of a COSE key are the canonical CBOR encoding of the map `{1: 2, 3: -7, -1: 1, -2: x, -3: y}`
 /// (RFC 8152, sections 7.1, 8.1 and 13.1.1; CTAP 2.1, section 8).
+#[tactic(auto, using(crate::proofs::Kept::canonical))]
 pub fn cose_keys_are_canonical()
     ensures { (x y : List ℕ) → length x ≡ 32 → length y ≡ 32 → AreBytes x → AreBytes y
         → IsCanonical (cose_key_tree x y) (cose_key_bytes x y) }

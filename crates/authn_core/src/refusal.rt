@@ -1,6 +1,6 @@
 //! Errors of commands.
 ghost use Rattle.std.specs.Prelude.{◌≡◌};
-ghost use Rattle.authn_core.specs.Refusals.{status_of, presence_refusal};
+ghost use Rattle.authn_core.specs.State.{status_of, presence_refusal};
 
 use crate::replies::Presence;
 use ctap_message::Status;

@@ -1,18 +1,49 @@
 -- Chains that links make, as lists of slots.
-use Rattle.std.proofs.lemmas.{Grind.common_steps, List.Folds.list_any-append, Map.Steps.length-le_from_distinct_below}
-use Rattle.std.proofs.Common.{rules, ◌≡◌, ◌≢◌, ℕ, zero, suc, ◌<◌, ◌≤◌, List, [], ◌∷◌, ◌++◌, length, Bool, true, false}
-use Rattle.std.proofs.Common.{◌||◌, not, Option, Some, None, refl, sym, ◌∙◌, ap, subst, arith, get_or, set, nat_lt}
-use Rattle.std.proofs.Common.{nat_eq, eqb, length-append, map, ◌+◌, reverse, ◌&&◌}
-use Rattle.std.specs.List.{IsDistinct, AllByRecursion}
+use Rattle.std.proofs.Common.{arith, rules, ◌≡◌, ℕ, List, [], ◌∷◌, Bool, true, false, not, None, is_some, refl, ◌∙◌}
+use Rattle.std.proofs.Common.{ap, filter, ◌≢◌, zero, suc, ◌<◌, ◌≤◌, ◌++◌, length, ◌||◌, Option, Some, sym, subst}
+use Rattle.std.proofs.Common.{get_or, set, nat_lt, nat_eq, eqb, length-append, map, ◌+◌, reverse, ◌&&◌}
+use Rattle.std.proofs.lemmas.Slice.Eq.{bytes_eq-Decides}
+use Rattle.std.proofs.lemmas.Bool.{or_parts, and_parts, not-true}
+use Rattle.std.specs.List.{find, list_any, IsDistinct, AllByRecursion}
+use Rattle.std.specs.Str.{bytes_eq}
+use Rattle.std.proofs.lemmas.Grind.{common_steps}
+use Rattle.std.proofs.lemmas.List.Folds.{list_any-append}
+use Rattle.std.proofs.lemmas.Map.Steps.{length-le_from_distinct_below}
 use Rattle.std.proofs.lemmas.List.{length-set, get_or-set_same, get_or-set_other, get_or-map, get_or_default}
 use Rattle.std.proofs.lemmas.List.{length-map, map-set, set-get_or, reverse-append, reverse-reverse}
-use Rattle.std.proofs.lemmas.Bool.{and_parts, or_parts, not-true}
-use Rattle.cred_table.specs.Slots.{walk, terminates, chain, is_chain, is_among, without_slot, distinct, first_link, links, link_of, with_link}
-use Rattle.cred_table.specs.Slots.{relinked, slot_at, blank, within, bucket, numbered}
-use Rattle.cred_table.proofs.Basics.{all_stay}
-use Rattle.cred_table.specs.declared.{slot.Slot.Slot, slot.ChainKind.ChainKind, chains.Chains.Chains}
+use Rattle.cred_table.specs.Slots.{walk, terminates, chain, is_chain, is_among, without_slot, distinct, first_link}
+use Rattle.cred_table.specs.Slots.{links, link_of, with_link, relinked, slot_at, blank, within, bucket, numbered}
+use Rattle.cred_table.specs.declared.slot.Slot.{Slot}
+use Rattle.cred_table.specs.declared.slot.ChainKind.{ChainKind}
+use Rattle.cred_table.specs.declared.chains.Chains.{Chains}
 use Rattle.cred_table.specs.declared.slot.ChainKind.TheVariants.{Next, Newer, Older}
-use Rattle.cred_table.specs.Linked.{row_at, Linked, slots_by_age, free_slots, id_slots, head}
+use Rattle.cred_table.specs.Slots.{row_at, Linked, slots_by_age, free_slots, id_slots, head}
+
+-- ---- tests that are true or false, and what a list has under one
+
+pub same_bytes : (xs : List ℕ) → bytes_eq xs xs ≡ true
+same_bytes xs = (bytes_eq-Decides xs xs).1 refl
+
+pub bytes_from : (xs ys : List ℕ) → bytes_eq xs ys ≡ true → xs ≡ ys
+bytes_from xs ys h = (bytes_eq-Decides xs ys).0 h
+
+pub bytes_sym : (xs ys : List ℕ) → bytes_eq xs ys ≡ bytes_eq ys xs
+bytes_sym xs ys = grind (arith, bytes_eq-Decides)
+
+-- an element passes where one is found
+pub any_is_found : {X : Type 0} (q : X → Bool) (xs : List X) → list_any q xs ≡ is_some (find q xs)
+any_is_found q [] = refl
+any_is_found q (x ∷ xs) = search (rules, arith, any_is_found q xs)
+
+pub none_passes : {X : Type 0} (q : X → Bool) (xs : List X) → find q xs ≡ None → list_any q xs ≡ false
+none_passes q xs h = any_is_found q xs ∙ ap is_some h
+
+-- where none passes, all are kept
+pub all_stay : {X : Type 0} (q : X → Bool) (xs : List X) → list_any q xs ≡ false → filter (λ x. not (q x)) xs ≡ xs
+all_stay q [] h = refl
+all_stay q (x ∷ xs) h = let e = or_parts (q x) (list_any q xs) h in rw e.0 (ap (λ ys. x ∷ ys) (all_stay q xs e.1))
+
+-- ---- chains that links make, as lists of slots
 
 -- ---- numbers
 

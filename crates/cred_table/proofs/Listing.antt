@@ -5,7 +5,7 @@ use Rattle.std.proofs.Common.{rules, ◌≡◌, ℕ, ◌<◌, ◌≤◌, List, [
 use Rattle.std.proofs.Common.{◌∙◌, ap, arith, filter, length-append, map, refl}
 use Rattle.std.proofs.lemmas.List.{length-map, length-reverse, reverse-append, Elements.filter-append}
 use Rattle.cred_table.specs.declared.{row.Row.Row, slot.Slot.Slot, chains.Chains.Chains}
-use Rattle.cred_table.specs.{Rows.is_listed, Rows.discoverable_rows, Rows.ids, Linked.row_at, Linked.slots_by_age, Linked.rows_in}
+use Rattle.cred_table.specs.{Rows.is_listed, Rows.discoverable_rows, Rows.ids, Slots.row_at, Slots.slots_by_age, Slots.rows_in}
 use Rattle.cred_table.{proofs.Stored.length-filter, specs.Slots.numbered}
 
 -- no more rows are listed than there are

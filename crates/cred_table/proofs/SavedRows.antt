@@ -3,18 +3,18 @@ use Rattle.std.proofs.{lemmas.Grind.common_steps, lemmas.List.append-nil, Common
 use Rattle.std.proofs.Common.{rules, ◌≡◌, ℕ, ◌+◌, Bool, List, [], ◌∷◌, ◌++◌, arith, sym, ap, ◌∙◌, append_assoc}
 use Rattle.std.proofs.Common.{length-append, ◌≤◌, true, length, subst, Result, ◌*◌, take, drop, take-append-drop}
 use Rattle.std.specs.{List.AllByRecursion, Prelude.OnErr}
-use Rattle.ctap_cbor.specs.{Reading.Reading, declared.sink.Sink.Sink, Writing.Appends, Head.head, Head.head_len}
-use Rattle.cred_table.specs.{declared.row.Row.Row, Rows.ValidRows, Saving.AppendsUpTo, Saving.SavesInto, Saving.max_snapshot_len}
+use Rattle.ctap_cbor.specs.{Reading.Reading, declared.sink.Sink.Sink, Writing.Appends, Grammar.head, Grammar.head_len}
+use Rattle.cred_table.specs.{declared.row.Row.Row, Rows.ValidRows, Snapshots.AppendsUpTo, Snapshots.SavesInto, Snapshots.max_snapshot_len}
 use Rattle.cred_table.specs.Snapshots.{IsRow, rows_then, snapshot, IsSnapshot, Saves, saved_len}
-use Rattle.cred_table.specs.Parsing.{row_text, rows_text, ReadsNextRow, ReadsFirstRows, header_text}
-use Rattle.ctap_cbor.specs.{Tree.no_trees, Tree.depth_all, Tree.count, Grammar.text, Grammar.AreLawful}
-use Rattle.cred_table.proofs.{RowTrees.row_lawful, RowTrees.row_flat, Contents.count_then}
-use Rattle.ctap_cbor.specs.Composing.{done, then}
+use Rattle.cred_table.specs.Snapshots.{encode_row, encode_rows, ReadsNextRow, ReadsFirstRows, encode_header}
+use Rattle.ctap_cbor.specs.{Tree.no_trees, Tree.depth_all, Tree.count, Grammar.encode_tree, Grammar.AreLawful}
+use Rattle.cred_table.proofs.{Stored.row_lawful, Stored.row_flat, OneSnapshot.count_then}
+use Rattle.ctap_cbor.specs.Writing.{done, then}
 
 -- one more row after the others
 pub rows_text_more : (named : Bool) (rows : List Row) (row : Row) →
-    rows_text named (rows ++ row ∷ []) ≡ rows_text named rows ++ row_text named row
-rows_text_more named [] row = append-nil (row_text named row)
+    encode_rows named (rows ++ row ∷ []) ≡ encode_rows named rows ++ encode_row named row
+rows_text_more named [] row = append-nil (encode_row named row)
 rows_text_more named (r ∷ rows) row = search (rules, arith, append_assoc, rows_text_more named rows row)
 
 pub all_more : (P : Row → Type 0) (rows : List Row) (row : Row) → AllByRecursion P rows → P row →
@@ -43,7 +43,7 @@ rows_flat named (row ∷ rows) = omega (arith, row_flat named row, rows_flat nam
 
 -- typed and lawful rows have a snapshot
 pub snapshot_is : (named : Bool) (capacity : ℕ) (rows : List Row) → capacity ≤ 256 → AllByRecursion (IsRow named) rows →
-    ValidRows capacity rows → IsSnapshot named capacity rows (text (snapshot named rows))
+    ValidRows capacity rows → IsSnapshot named capacity rows (encode_tree (snapshot named rows))
 unfolding head
 snapshot_is named capacity rows small typed lawful = grind (arith, count_then, rows_flat, rows_lawful)
 
@@ -54,46 +54,46 @@ pub record Written (rows left : List Row) (old new : List ℕ) : Type 0 where
   pub done : List Row
   pub all : done ++ left ≡ rows
   pub typed : AllByRecursion (IsRow true) done
-  pub spelled : new ≡ old ++ (header_text (true, length rows) ++ rows_text true done)
+  pub spelled : new ≡ old ++ (encode_header (true, length rows) ++ encode_rows true done)
 
 pub one_written : (rows left rest : List Row) (row : Row) (old between new : List ℕ) → left ≡ row ∷ rest →
-    IsRow true row → Written rows left old between → new ≡ between ++ row_text true row → Written rows rest old new
+    IsRow true row → Written rows left old between → new ≡ between ++ encode_row true row → Written rows rest old new
 one_written rows left rest row old between new first is w e =
-    let front : List ℕ = header_text (true, length rows) in
+    let front : List ℕ = encode_header (true, length rows) in
     record {
       done = w.done ++ row ∷ [];
       all = append_assoc w.done (row ∷ []) rest ∙ ap (λ l. w.done ++ l) (sym first) ∙ w.all;
       typed = all_more (IsRow true) w.done row w.typed is;
       spelled =
-          e ∙ ap (λ x. x ++ row_text true row) w.spelled
-          ∙ append_assoc old (front ++ rows_text true w.done) (row_text true row)
-          ∙ ap (λ x. old ++ x) (append_assoc front (rows_text true w.done) (row_text true row)
+          e ∙ ap (λ x. x ++ encode_row true row) w.spelled
+          ∙ append_assoc old (front ++ encode_rows true w.done) (encode_row true row)
+          ∙ ap (λ x. old ++ x) (append_assoc front (encode_rows true w.done) (encode_row true row)
           ∙ ap (λ x. front ++ x) (sym (rows_text_more true w.done row)));
     }
 
 -- the rows' snapshot, as it is written
-pub whole_is : (rows : List Row) → text (snapshot true rows) ≡ header_text (true, length rows) ++ rows_text true rows
+pub whole_is : (rows : List Row) → encode_tree (snapshot true rows) ≡ encode_header (true, length rows) ++ encode_rows true rows
 whole_is rows = grind (arith, common_steps, count_then)
 
 -- what is written next is a part of it
 pub heads_within : (rows : List Row) (count : ℕ) → count ≡ length rows →
-    length (header_text (true, count)) ≤ saved_len rows
+    length (encode_header (true, count)) ≤ saved_len rows
 heads_within rows count is = grind (arith, length-append, whole_is)
 
 pub row_within : (rows left rest : List Row) (row : Row) (old between : List ℕ) → left ≡ row ∷ rest →
-    Written rows left old between → length between + length (row_text true row) ≤ length old + saved_len rows
+    Written rows left old between → length between + length (encode_row true row) ≤ length old + saved_len rows
 row_within rows left rest row old between first w =
-    let front : List ℕ = header_text (true, length rows) in
-    let whole = ap length (whole_is rows) ∙ length-append front (rows_text true rows) in
-    let all = ap (λ l. length (rows_text true l)) (sym w.all ∙ ap (λ l. w.done ++ l) first)
+    let front : List ℕ = encode_header (true, length rows) in
+    let whole = ap length (whole_is rows) ∙ length-append front (encode_rows true rows) in
+    let all = ap (λ l. length (encode_rows true l)) (sym w.all ∙ ap (λ l. w.done ++ l) first)
     ∙ rows_joined w.done (row ∷ rest) in
-    let next = length-append (row_text true row) (rows_text true rest) in
-    let here = ap length w.spelled ∙ length-append old (front ++ rows_text true w.done) in
-    let both = length-append front (rows_text true w.done) in
+    let next = length-append (encode_row true row) (encode_rows true rest) in
+    let here = ap length w.spelled ∙ length-append old (front ++ encode_rows true w.done) in
+    let both = length-append front (encode_rows true w.done) in
     omega (arith, whole, all, next, here, both)
   where
     rows_joined : (some more : List Row) →
-        length (rows_text true (some ++ more)) ≡ length (rows_text true some) + length (rows_text true more)
+        length (encode_rows true (some ++ more)) ≡ length (encode_rows true some) + length (encode_rows true more)
     rows_joined [] more = omega arith
     rows_joined (r ∷ some) more = search (rules, arith, length-append, rows_joined some more)
 
@@ -131,18 +131,18 @@ pub record Put (rows left : List Row) (old new : Sink) : Type 0 where
   pub done : List Row
   pub all : done ++ left ≡ rows
   pub typed : AllByRecursion (IsRow true) done
-  pub appends : AppendsUpTo old new (header_text (true, length rows) ++ rows_text true done) (13 + 283 * length done)
+  pub appends : AppendsUpTo old new (encode_header (true, length rows) ++ encode_rows true done) (13 + 283 * length done)
 
 pub one_put : (rows left rest : List Row) (row : Row) (old between new : Sink) → left ≡ row ∷ rest → IsRow true row →
-    Put rows left old between → AppendsUpTo between new (row_text true row) 283 → Put rows rest old new
+    Put rows left old between → AppendsUpTo between new (encode_row true row) 283 → Put rows rest old new
 one_put rows left rest row old between new first is w p =
-    let front : List ℕ = header_text (true, length rows) in
+    let front : List ℕ = encode_header (true, length rows) in
     let more = length-append w.done (row ∷ []) in
     record {
       done = w.done ++ row ∷ [];
       all = append_assoc w.done (row ∷ []) rest ∙ ap (λ l. w.done ++ l) (sym first) ∙ w.all;
       typed = all_more (IsRow true) w.done row w.typed is;
-      appends = at_most (omega (arith, more)) (respelled (append_assoc front (rows_text true w.done) (row_text true row)
+      appends = at_most (omega (arith, more)) (respelled (append_assoc front (encode_rows true w.done) (encode_row true row)
           ∙ ap (λ x. front ++ x) (sym (rows_text_more true w.done row))) (up_to w.appends p));
     }
 
@@ -151,12 +151,12 @@ whole : (rows left : List Row) (old new : Sink) → left ≡ [] → (w : Put row
 whole rows left old new end w = sym (append-nil w.done) ∙ ap (λ l. w.done ++ l) (sym end) ∙ w.all
 
 pub all_put : (capacity : ℕ) (rows left : List Row) (old new : Sink) → ValidRows capacity rows → left ≡ [] →
-    Put rows left old new → AppendsUpTo old new (text (snapshot true rows)) (max_snapshot_len capacity)
+    Put rows left old new → AppendsUpTo old new (encode_tree (snapshot true rows)) (max_snapshot_len capacity)
 all_put capacity rows left old new lawful end w = search (rules, arith, whole_is)
 
 -- the buffer then
 pub saved_into : (capacity : ℕ) (rows : List Row) (old new : List ℕ) (len : ℕ) → capacity ≤ 256 → ValidRows capacity rows →
-    AllByRecursion (IsRow true) rows → max_snapshot_len capacity ≤ length old → take len new ≡ text (snapshot true rows) →
+    AllByRecursion (IsRow true) rows → max_snapshot_len capacity ≤ length old → take len new ≡ encode_tree (snapshot true rows) →
     drop len new ≡ drop len old → len ≤ length new → SavesInto capacity rows old new (Some len)
 saved_into capacity rows old new len small lawful typed space front rest within =
     grind (arith, length-take-le, snapshot_is, take-append-drop)

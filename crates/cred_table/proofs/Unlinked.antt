@@ -9,7 +9,7 @@ use Rattle.cred_table.specs.declared.{slot.Slot.Slot, slot.ChainKind.ChainKind, 
 use Rattle.cred_table.specs.declared.slot.ChainKind.TheVariants.{Next, Newer, Older}
 use Rattle.cred_table.specs.Slots.{links, is_among, slot_at, numbered, points_to, before, without_slot, within, distinct, relinked}
 use Rattle.cred_table.specs.Slots.{first_link, bucket}
-use Rattle.cred_table.specs.Linked.{Linked, id_slots, head, slots_by_age, free_slots, row_at, rows_in}
+use Rattle.cred_table.specs.Slots.{Linked, id_slots, head, slots_by_age, free_slots, row_at, rows_in}
 use Rattle.cred_table.proofs.Chain.{Leads, walked, EndsWith, eq_is, link_at, length-links, Leads-set, led, eq_test}
 use Rattle.cred_table.proofs.Chain.{ne_test, lt_is, has-push, Leads-split, Leads-without, Leads-distinct, has-split}
 use Rattle.cred_table.proofs.Chain.{distinct-split, but_is, links-led, links-led_other, length-led, row-led, map_same}

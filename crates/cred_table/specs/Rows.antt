@@ -1,9 +1,37 @@
--- A credential table as the list of its rows, in order of creation: the credentials map of WebAuthn Level 2, section
--- 6.
-use Rattle.std.specs.Prelude.{ℕ, ◌+◌, ◌≤◌, ◌≡◌, List, [], ◌∷◌, ◌++◌, length, map, reverse, Bool, true, ◌&&◌, not}
-use Rattle.std.specs.Prelude.{if◌then◌else◌, Option, Some, None}
-use Rattle.std.specs.{List.find, List.filter, List.list_any, Str.bytes_eq}
+-- A credential table as the list of its rows, in order of creation, and the pending assertions.
+use Rattle.std.specs.Prelude.{◌≡◌, ℕ, zero, suc, ◌≤◌, nat_le, nat_lt, Bool, ◌&&◌, ◌||◌, if◌then◌else◌, List, length}
+use Rattle.std.specs.Prelude.{take, slice_index, ◌+◌, [], ◌∷◌, ◌++◌, map, reverse, true, not, Option, Some, None}
+use Rattle.std.specs.Prelude.{drop, slice_get, false}
+use Rattle.std.specs.Str.{IsCharBoundary, bytes_eq}
+use Rattle.std.specs.List.{find, filter, list_any}
 use Rattle.cred_table.specs.declared.row.Row.{Row}
+
+-- The truncated user names in rows (WebAuthn Level 2, section 6.4.1, "String Truncation"). Responses don't contain user
+-- names.
+
+-- `cut` is the longest prefix of a text with at most 64 bytes that ends at a character boundary.
+pub record IsCut (whole cut : List ℕ) : Type 0 where
+  pub begins : cut ≡ take (length cut) whole
+  pub short : length cut ≤ 64
+  pub at_character : IsCharBoundary whole (length cut)
+  pub longest : (n : ℕ) → n ≤ 64 → IsCharBoundary whole n → n ≤ length cut
+
+-- Whether a character begins at this index, or the text ends there.
+abbrev pub is_boundary : List ℕ → ℕ → Bool
+is_boundary text i =
+    nat_le i (length text) && (nat_le (length text) i || nat_lt (slice_index text i) 128
+    || nat_le 192 (slice_index text i))
+
+-- The last character boundary at or before index `n`.
+abbrev pub boundary_to : List ℕ → (n : ℕ) → ℕ
+boundary_to text zero = 0
+boundary_to text (suc i) = if is_boundary text (suc i) then suc i else boundary_to text i
+
+-- A text, truncated to at most 64 bytes at a character boundary.
+unfoldable pub cut : List ℕ → List ℕ
+cut name = take (boundary_to name 64) name
+
+-- ---- the rows of a table: the credentials map of WebAuthn Level 2, section 6
 
 -- Whether the row has this ID.
 abbrev pub has_id : (id : List ℕ) → Row → Bool
@@ -73,3 +101,60 @@ counter_in (Some row) = row.counter
 -- The signature counter of the row with this ID, or 0 if there is none.
 abbrev pub counter_of : (id : List ℕ) → List Row → ℕ
 counter_of id rows = counter_in (find (has_id id) rows)
+
+-- ---- the pending assertions, which authenticatorGetNextAssertion returns one by one (CTAP 2.1, section 6.3)
+
+-- The pending assertions: the channel of the request, the client data hash, whether user presence was requested, the
+-- time of the last response, and the credential IDs.
+pub record PendingAssertions : Type 0 where
+  pub cid : ℕ
+  pub hash : List ℕ
+  pub presence : Bool
+  pub moment : ℕ
+  pub ids : List (List ℕ)
+
+-- The pending assertions with these IDs, or None if the list is empty.
+abbrev pub new_pending : (cid : ℕ) (hash : List ℕ) (presence : Bool) (moment : ℕ) → List (List ℕ) → Option PendingAssertions
+new_pending cid hash presence moment [] = None
+new_pending cid hash presence moment (id ∷ ids) =
+    Some (record { cid = cid; hash = hash; presence = presence; moment = moment; ids = id ∷ ids })
+
+-- The number of pending assertions.
+abbrev pub pending_count : Option PendingAssertions → ℕ
+pending_count None = 0
+pending_count (Some w) = length w.ids
+
+-- The pending assertions with a new time of the last response.
+abbrev pub with_time : ℕ → Option PendingAssertions → Option PendingAssertions
+with_time at None = None
+with_time at (Some w) = Some (record w { moment = at })
+
+-- The first pending ID.
+abbrev pub first_of : Option PendingAssertions → Option (List ℕ)
+first_of None = None
+first_of (Some w) = slice_get w.ids 0
+
+-- The pending assertions without the first one.
+abbrev pub rest_of : Option PendingAssertions → Option PendingAssertions
+rest_of None = None
+rest_of (Some w) = new_pending w.cid w.hash w.presence w.moment (drop 1 w.ids)
+
+-- The channel of the request, or 0 without pending assertions.
+abbrev pub cid_of : Option PendingAssertions → ℕ
+cid_of None = 0
+cid_of (Some w) = w.cid
+
+-- The client data hash, or the empty list without pending assertions.
+abbrev pub hash_of : Option PendingAssertions → List ℕ
+hash_of None = []
+hash_of (Some w) = w.hash
+
+-- Whether user presence was requested, or false without pending assertions.
+abbrev pub presence_of : Option PendingAssertions → Bool
+presence_of None = false
+presence_of (Some w) = w.presence
+
+-- The time of the last response in milliseconds, or 0 without pending assertions.
+abbrev pub moment_of : Option PendingAssertions → ℕ
+moment_of None = 0
+moment_of (Some w) = w.moment

@@ -1,10 +1,16 @@
 -- The slots of a table, and the chains that their links form.
 use Prim.Native.Nat.{zero}
-use Rattle.std.specs.Prelude.{ℕ, ◌%◌, ◌+◌, suc, List, [], ◌∷◌, length, map, Bool, true, false, ◌&&◌, not, Option, Some}
-use Rattle.std.specs.Prelude.{None, nat_lt, nat_eq, slice_index_or, slice_set, if◌then◌else◌}
+use Rattle.std.specs.Prelude.{ℕ, ◌%◌, ◌+◌, suc, List, [], ◌∷◌, length, map, Bool, true, false, ◌&&◌, not, Option}
+use Rattle.std.specs.Prelude.{Some, None, nat_lt, nat_eq, slice_index_or, slice_set, if◌then◌else◌, ◌<◌, ◌≡◌, ◌++◌}
+use Rattle.std.specs.Prelude.{reverse}
 use Rattle.std.specs.List.{filter, list_any}
-use Rattle.cred_table.specs.declared.{row.Row.Row, slot.Slot.Slot, slot.ChainKind.ChainKind}
+use Rattle.cred_table.specs.declared.row.Row.{Row}
+use Rattle.cred_table.specs.declared.slot.Slot.{Slot}
+use Rattle.cred_table.specs.declared.slot.ChainKind.{ChainKind}
 use Rattle.cred_table.specs.declared.slot.ChainKind.TheVariants.{Next, Newer, Older}
+use Rattle.cred_table.specs.declared.chains.Chains.{Chains}
+
+-- ---- slots and links
 
 -- The row in a slot that was never used.
 abbrev pub blank_row : Row
@@ -126,3 +132,49 @@ row_plus_one row = record row { counter = row.counter + 1 }
 -- The slot with its row's counter incremented.
 abbrev pub slot_incremented : Slot → Slot
 slot_incremented slot = record slot { row = row_plus_one slot.row }
+
+-- ---- the linked lists of a table, and the rows in their slots
+
+-- The slots that contain rows, the oldest first.
+abbrev pub slots_by_age : {C : ℕ} → Chains C → List ℕ
+slots_by_age chains = chain (links Newer chains.slots) chains.oldest
+
+-- The free slots.
+abbrev pub free_slots : {C : ℕ} → Chains C → List ℕ
+free_slots chains = chain (links Next chains.slots) chains.free
+
+-- The first slot of an ID chain. A table has 32 ID chains.
+abbrev pub head : {C : ℕ} → ℕ → Chains C → Option ℕ
+head b chains = slice_index_or chains.heads b None
+
+-- The slots of an ID chain. A table has 32 ID chains.
+abbrev pub id_slots : {C : ℕ} → ℕ → Chains C → List ℕ
+id_slots b chains = chain (links Next chains.slots) (head b chains)
+
+-- The row in a slot.
+abbrev pub row_at : List Slot → ℕ → Row
+row_at slots k = (slot_at slots k).row
+
+-- The rows of the table, the oldest first.
+abbrev pub rows_in : {C : ℕ} → Chains C → List Row
+rows_in chains = map (row_at chains.slots) (slots_by_age chains)
+
+-- The invariant of the links, except for the slots in `away`: a slot is either in the free list, or once in the age
+-- list and once in the chain of its ID. The backward links match the forward links.
+pub record Linked {C : ℕ} (away : List ℕ) (chains : Chains C) : Type 0 where
+  pub aged : is_chain (links Newer chains.slots) chains.oldest ≡ true
+  pub back : is_chain (links Older chains.slots) chains.newest ≡ true
+  pub turned : chain (links Older chains.slots) chains.newest ≡ reverse (slots_by_age chains)
+  pub freed : is_chain (links Next chains.slots) chains.free ≡ true
+  pub found : (b : ℕ) → is_chain (links Next chains.slots) (head b chains) ≡ true
+  pub by_id : (b k : ℕ) → is_among k (id_slots b chains) ≡
+      (is_among k (slots_by_age chains) && nat_eq (bucket (row_at chains.slots k).id) b)
+  pub in_free : (k : ℕ) → is_among k (free_slots chains) ≡
+      (not (is_among k (away ++ slots_by_age chains)) && nat_lt k (length chains.slots))
+  pub apart : distinct (away ++ slots_by_age chains) ≡ true
+  pub inside : (k : ℕ) → is_among k (away ++ slots_by_age chains) ≡ true → k < length chains.slots
+  pub all : length (away ++ slots_by_age chains) + length (free_slots chains) ≡ length chains.slots
+
+-- The row in slot `k` after the counter of the row in slot `number` was incremented.
+abbrev pub incremented_at : ℕ → List Slot → ℕ → Row
+incremented_at number slots k = if nat_eq number k then row_plus_one (row_at slots k) else row_at slots k

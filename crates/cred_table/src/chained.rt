@@ -2,7 +2,7 @@
 
 ghost use Rattle.std.specs.Prelude.{◌≡◌, ◌≤◌, [], length};
 ghost use Rattle.cred_table.specs.Rows.{ValidRows};
-ghost use Rattle.cred_table.specs.Linked.{Linked, rows_in};
+ghost use Rattle.cred_table.specs.Slots.{Linked, rows_in};
 
 use crate::chains::Chains;
 use crate::row::Row;

@@ -4,7 +4,7 @@ ghost use Rattle.std.specs.Prelude.{◌≡◌, ◌<◌, ◌≤◌, ◌+◌, ◌-
 ghost use Rattle.std.specs.List.{find};
 ghost use Rattle.cred_table.specs.Slots.{numbered, is_among, without_slot, bucket, before};
 ghost use Rattle.cred_table.specs.Rows.{has_id};
-ghost use Rattle.cred_table.specs.Linked.{Linked, incremented_at, slots_by_age, id_slots, rows_in, row_at};
+ghost use Rattle.cred_table.specs.Slots.{Linked, incremented_at, slots_by_age, id_slots, rows_in, row_at};
 
 use crate::row::Row;
 use crate::slot::{self, ChainKind, ChainWalk, Link, Slot};

@@ -1,7 +1,7 @@
 //! Snapshot errors.
 
 ghost use Rattle.std.specs.Prelude.{◌≡◌};
-ghost use Rattle.cred_table.specs.Numbers.{refusal_number};
+ghost use Rattle.cred_table.specs.Snapshots.{refusal_number};
 
 use thiserror::Error;
 

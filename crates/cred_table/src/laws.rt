@@ -1,7 +1,7 @@
 //! Laws of snapshots, stated over the definitions. Each function has an empty body, and its contract is the law. A
 //! caller obtains the law by calling the function.
 
-ghost use Rattle.cred_table.specs.Laws.{SnapshotsAreUnique, RejectedIsNoSnapshot, OneSnapshotError};
+ghost use Rattle.cred_table.specs.Snapshots.{SnapshotsAreUnique, RejectedIsNoSnapshot, OneSnapshotError};
 
 use ctap_cbor::laws::no_encoding_is_a_prefix;
 
@@ -15,6 +15,7 @@ pub fn snapshots_are_unique()
 
 /// States that rejected bytes aren't a snapshot of rows that fit the capacity. Therefore every valid snapshot is
 /// loaded.
+#[tactic(auto, using(crate::proofs::OneSnapshot::rejected_is_no_snapshot))]
 pub fn rejected_is_no_snapshot()
     ensures { RejectedIsNoSnapshot }
 {
@@ -22,6 +23,7 @@ pub fn rejected_is_no_snapshot()
 }
 
 /// States that rejected bytes have only one error.
+#[tactic(auto, using(crate::proofs::OneSnapshot::one_snapshot_error))]
 pub fn one_snapshot_error()
     ensures { OneSnapshotError }
 {

@@ -38,6 +38,7 @@ impl<const C: usize> Listed<C> {
     }
 
     /// Returns the index of the row with the ID. The row must exist.
+    #[tactic(auto, using(crate::proofs::Stored::place_found))]
     fn place(&self, id: &[u8; 32]) -> usize
         requires { IsSome (find (has_id id.now) self.now.list.items) }
         ensures value { result ≡ position_or_len (has_id id.now) self.now.list.items }

@@ -3,7 +3,7 @@
 ghost use Rattle.std.specs.Prelude.{◌≡◌, ◌<◌, ◌≤◌, [], ◌∷◌, ◌++◌, not, if◌then◌else◌, length, List, OnErr, MatchResult};
 ghost use Rattle.cred_table.specs.Rows.{ValidRows};
 ghost use Rattle.cred_table.specs.Snapshots.{Loads, clashes};
-ghost use Rattle.cred_table.specs.Parsing.{ReadsEntry, ReadsRows};
+ghost use Rattle.cred_table.specs.Snapshots.{ReadsEntry, ReadsRows};
 
 use crate::copy::copy_row;
 use crate::fault::SnapshotFault;
@@ -16,6 +16,7 @@ use ctap_cbor::{Cursor, check};
 
 /// Returns whether a row conflicts with a row of a table: both have the same ID, or both are discoverable with the same
 /// RP and user handle.
+#[tactic(auto, using(crate::proofs::Stored::found_by_id, crate::proofs::Stored::clash_hidden, crate::proofs::Stored::clash_by_user))]
 fn clashes<T: Table<C>, const C: usize>(table: &T, row: &Row) -> bool
     ensures { result ≡ clashes row.now (T.rows table.now) }
 {
@@ -44,6 +45,7 @@ pub fn put_new<T: Table<C>, const C: usize>(table: &mut T, row: Row) -> bool
 }
 
 /// Reads an entry, and appends it if it is a valid row. Returns whether it was appended.
+#[tactic(auto, using(crate::proofs::Stored::entry_read))]
 fn read_entry<const C: usize>(cursor: &mut Cursor, named: bool, rows: &mut Listed<C>) -> bool
     requires capacity { length rows.old.list.items < C }
     ensures { ReadsEntry named cursor.old cursor.new rows.old.list.items rows.new.list.items result }

@@ -1,7 +1,7 @@
 //! User names.
 
 ghost use Rattle.std.specs.Prelude.{◌≡◌, ◌≤◌, nat_le, if◌then◌else◌, Some, None, length};
-ghost use Rattle.cred_table.specs.Names.{cut};
+ghost use Rattle.cred_table.specs.Rows.{cut};
 
 use crate::truncate::cut_name;
 use arrayvec::ArrayString;

@@ -2,12 +2,12 @@
 
 ghost use Rattle.std.specs.Prelude.{◌≡◌, ◌-◌, ◌≤◌, ◌<◌, ◌^◌, pos, option_map, ⊤};
 ghost use Rattle.ctap_cbor.specs.Tree.{Int, Bytes, Flag};
-ghost use Rattle.ctap_cbor.specs.Head.{head};
-ghost use Rattle.ctap_cbor.specs.Grammar.{scalar_text};
-ghost use Rattle.ctap_cbor.specs.Parts.{One, OpensArray, item_text};
+ghost use Rattle.ctap_cbor.specs.Grammar.{head};
+ghost use Rattle.ctap_cbor.specs.Grammar.{encode_scalar};
+ghost use Rattle.ctap_cbor.specs.Items.{One, OpensArray, encode_item};
 ghost use Rattle.cred_table.specs.Snapshots.{IsHash, IsUserHandle, IsName, IsRow, version};
 ghost use Rattle.ctap_cbor.specs.Views.{to_part};
-ghost use Rattle.cred_table.specs.Parsing.{Reads, ReadsPart, ReadsMember, member_text, map_in, key_in, and_then, hash_in, handle_in, flag_in, counter_in, name_in, count_in, has_names_in, name_text, header_text, row_text, member_count};
+ghost use Rattle.cred_table.specs.Snapshots.{Reads, ReadsPart, ReadsMember, encode_member, map_in, key_in, and_then, hash_in, handle_in, flag_in, counter_in, name_in, count_in, has_names_in, encode_name, encode_header, encode_row, member_count};
 
 use crate::name::Name;
 use crate::row::Row;
@@ -15,10 +15,11 @@ use arrayvec::ArrayVec;
 use ctap_cbor::{Cursor, Item};
 
 /// Reads an item: its head and, for a string, the content.
-fn take<'a>(cursor: &mut Cursor<'a>, level: u8) -> Option<Item<'a>>
+#[tactic(auto, using(crate::proofs::Typed::item_missed))]
+fn read_item<'a>(cursor: &mut Cursor<'a>, level: u8) -> Option<Item<'a>>
     requires low { 1 ≤ level }
     requires high { level ≤ 5 }
-    ensures { ReadsPart (5 - level) item_text cursor.old cursor.new (option_map to_part result) }
+    ensures { ReadsPart (5 - level) encode_item cursor.old cursor.new (option_map to_part result) }
 {
     match cursor.item(level) {
         Ok(item) => Some(item),
@@ -32,26 +33,26 @@ fn read_map(cursor: &mut Cursor, level: u8, count: u64) -> Option<()>
     requires high { level ≤ 4 }
     ensures { Reads (λ _. ⊤) (λ _. head 5 count) cursor.old cursor.new result }
 {
-    check_map(take(cursor, level), count)
+    check_map(read_item(cursor, level), count)
 }
 
 /// Reads a map key, which must be this unsigned integer.
 fn read_key(cursor: &mut Cursor, level: u8, key: u8) -> Option<()>
     requires low { 1 ≤ level }
     requires high { level ≤ 5 }
-    ensures { Reads (λ _. ⊤) (λ _. scalar_text (Int (pos key))) cursor.old cursor.new result }
+    ensures { Reads (λ _. ⊤) (λ _. encode_scalar (Int (pos key))) cursor.old cursor.new result }
 {
-    check_key(take(cursor, level), key)
+    check_key(read_item(cursor, level), key)
 }
 
 /// Reads a member of a map: its key, and its value if that is a string, or else the head of its value.
 fn read_member<'a>(cursor: &mut Cursor<'a>, level: u8, key: u8) -> Option<Item<'a>>
     requires low { 1 ≤ level }
     requires high { level ≤ 5 }
-    ensures { ReadsPart (5 - level) (member_text key) cursor.old cursor.new (option_map to_part result) }
+    ensures { ReadsPart (5 - level) (encode_member key) cursor.old cursor.new (option_map to_part result) }
 {
     read_key(cursor, level, key)?;
-    take(cursor, level)
+    read_item(cursor, level)
 }
 
 /// Checks that an item is the head of a map with this number of members.
@@ -179,7 +180,7 @@ fn read_counter(cursor: &mut Cursor, key: u8) -> Option<u32>
 
 /// Reads the user name of a row. Returns an empty name if the version has no user names.
 fn read_name(cursor: &mut Cursor, named: bool) -> Option<Name>
-    ensures { Reads (IsName named) (name_text named) cursor.old cursor.new result }
+    ensures { Reads (IsName named) (encode_name named) cursor.old cursor.new result }
 {
     if !named {
         return Some(Name::default());
@@ -203,7 +204,7 @@ fn read_count(cursor: &mut Cursor) -> Option<u64>
 
 /// Reads the beginning of a snapshot. Returns whether its rows have user names, and the number of entries.
 pub(crate) fn read_header(cursor: &mut Cursor) -> Option<(bool, u64)>
-    ensures { Reads (λ h. h.1 < 2 ^ 64) header_text cursor.old cursor.new result }
+    ensures { Reads (λ h. h.1 < 2 ^ 64) encode_header cursor.old cursor.new result }
 {
     read_map(cursor, 1, 2)?;
     let named = read_version(cursor)?;
@@ -213,7 +214,7 @@ pub(crate) fn read_header(cursor: &mut Cursor) -> Option<(bool, u64)>
 
 /// Reads a row.
 pub(crate) fn read_row(cursor: &mut Cursor, named: bool) -> Option<Row>
-    ensures { Reads (IsRow named) (row_text named) cursor.old cursor.new result }
+    ensures { Reads (IsRow named) (encode_row named) cursor.old cursor.new result }
 {
     read_map(cursor, 3, row_member_count(named))?;
     let rp = read_hash(cursor, 1)?;

@@ -1,7 +1,7 @@
 //! Pending assertions.
 
 ghost use Rattle.std.specs.Prelude.{◌≡◌, ◌≤◌, None, IsSome, length};
-ghost use Rattle.cred_table.specs.Waiting.{new_pending, pending_count, with_time, first_of, rest_of, cid_of, hash_of, presence_of, moment_of};
+ghost use Rattle.cred_table.specs.Rows.{new_pending, pending_count, with_time, first_of, rest_of, cid_of, hash_of, presence_of, moment_of};
 
 use arrayvec::ArrayVec;
 use std::marker::Model;
@@ -19,7 +19,7 @@ pub struct Pending<const C: usize> {
 
 impl<const C: usize> Model for Pending<C> {
     ghost use Rattle.std.specs.Prelude.{Option};
-    ghost use Rattle.cred_table.specs.Waiting.{PendingAssertions, new_pending};
+    ghost use Rattle.cred_table.specs.Rows.{PendingAssertions, new_pending};
 
     ghost Value = { Option PendingAssertions };
 

@@ -3,12 +3,12 @@
 ghost use Rattle.std.specs.Prelude.{◌≡◌, ◌<◌, ◌≤◌, ◌+◌, ◌++◌, pos, true, length, take, drop, vec_capacity, OnOk, OnErr, IfErr};
 ghost use Rattle.std.specs.List.{AllByRecursion};
 ghost use Rattle.ctap_cbor.specs.Tree.{Int, Bytes, Text};
-ghost use Rattle.ctap_cbor.specs.Grammar.{scalar_text, text};
+ghost use Rattle.ctap_cbor.specs.Grammar.{encode_scalar, encode_tree};
 ghost use Rattle.ctap_cbor.specs.Writing.{space_of, Appends, SameBuffer};
 ghost use Rattle.cred_table.specs.declared.fault.SnapshotFault.TheVariants.{Memory};
 ghost use Rattle.cred_table.specs.Snapshots.{IsRow, IsHash, IsUserHandle, IsName, Saves, saved_len, snapshot};
-ghost use Rattle.cred_table.specs.Parsing.{row_text, header_text};
-ghost use Rattle.cred_table.specs.Saving.{AppendsUpTo, Extends, SavesInto, max_snapshot_len};
+ghost use Rattle.cred_table.specs.Snapshots.{encode_row, encode_header};
+ghost use Rattle.cred_table.specs.Snapshots.{AppendsUpTo, Extends, SavesInto, max_snapshot_len};
 
 use crate::fault::SnapshotFault;
 use crate::name::Name;
@@ -73,7 +73,7 @@ fn name_bounds(name: &Name)
 /// Writes 32 bytes.
 fn put_hash(sink: &mut Sink<'_>, hash: &[u8; 32])
     requires { 34 ≤ space_of sink.old }
-    ensures appends { Appends sink.old sink.new (scalar_text (Bytes hash.now)) 34 }
+    ensures appends { Appends sink.old sink.new (encode_scalar (Bytes hash.now)) 34 }
     ensures same { SameBuffer sink.old sink.new }
 {
     sink.bytes(hash);
@@ -83,7 +83,7 @@ fn put_hash(sink: &mut Sink<'_>, hash: &[u8; 32])
 fn put_handle(sink: &mut Sink<'_>, bytes: &[u8])
     requires short { length bytes.now ≤ 64 }
     requires space { 66 ≤ space_of sink.old }
-    ensures appends { AppendsUpTo sink.old sink.new (scalar_text (Bytes bytes.now)) 66 }
+    ensures appends { AppendsUpTo sink.old sink.new (encode_scalar (Bytes bytes.now)) 66 }
     ensures space { space_of sink.old ≤ space_of sink.new + 66 }
     ensures same { SameBuffer sink.old sink.new }
 {
@@ -94,7 +94,7 @@ fn put_handle(sink: &mut Sink<'_>, bytes: &[u8])
 fn put_name(sink: &mut Sink<'_>, name: &str)
     requires short { length name.now ≤ 64 }
     requires space { 66 ≤ space_of sink.old }
-    ensures appends { AppendsUpTo sink.old sink.new (scalar_text (Text name.now)) 66 }
+    ensures appends { AppendsUpTo sink.old sink.new (encode_scalar (Text name.now)) 66 }
     ensures space { space_of sink.old ≤ space_of sink.new + 66 }
     ensures same { SameBuffer sink.old sink.new }
 {
@@ -104,7 +104,7 @@ fn put_name(sink: &mut Sink<'_>, name: &str)
 /// Writes an integer from 0 to 2^32-1.
 fn put_counter(sink: &mut Sink<'_>, counter: u32)
     requires { 5 ≤ space_of sink.old }
-    ensures appends { AppendsUpTo sink.old sink.new (scalar_text (Int (pos counter))) 5 }
+    ensures appends { AppendsUpTo sink.old sink.new (encode_scalar (Int (pos counter))) 5 }
     ensures space { space_of sink.old ≤ space_of sink.new + 5 }
     ensures same { SameBuffer sink.old sink.new }
 {
@@ -114,7 +114,7 @@ fn put_counter(sink: &mut Sink<'_>, counter: u32)
 /// Writes the map of a row, with the members in ascending order of their keys.
 fn put_row(sink: &mut Sink<'_>, row: &Row)
     requires { MAX_ROW_LEN ≤ space_of sink.old }
-    ensures appends { AppendsUpTo sink.old sink.new (row_text true row.now) MAX_ROW_LEN }
+    ensures appends { AppendsUpTo sink.old sink.new (encode_row true row.now) MAX_ROW_LEN }
     ensures same { SameBuffer sink.old sink.new }
 {
     sink.map(8);
@@ -140,7 +140,7 @@ fn put_row(sink: &mut Sink<'_>, row: &Row)
 fn row_into(buffer: &mut [u8], row: &Row) -> usize
     requires { MAX_ROW_LEN ≤ length buffer.old }
     ensures within { result ≤ MAX_ROW_LEN }
-    ensures front { take result buffer.new ≡ row_text true row.now }
+    ensures front { take result buffer.new ≡ encode_row true row.now }
 {
     let mut sink = Sink::new(buffer);
     put_row(&mut sink, row);
@@ -150,7 +150,7 @@ fn row_into(buffer: &mut [u8], row: &Row) -> usize
 /// Writes the beginning of a snapshot: the version and the number of entries.
 fn put_header(sink: &mut Sink<'_>, count: u64)
     requires { MAX_HEADER_LEN ≤ space_of sink.old }
-    ensures appends { AppendsUpTo sink.old sink.new (header_text (true, count)) MAX_HEADER_LEN }
+    ensures appends { AppendsUpTo sink.old sink.new (encode_header (true, count)) MAX_HEADER_LEN }
     ensures same { SameBuffer sink.old sink.new }
 {
     sink.map(2);
@@ -164,7 +164,7 @@ fn put_header(sink: &mut Sink<'_>, count: u64)
 fn header_into(buffer: &mut [u8], count: u64) -> usize
     requires { MAX_HEADER_LEN ≤ length buffer.old }
     ensures within { result ≤ MAX_HEADER_LEN }
-    ensures front { take result buffer.new ≡ header_text (true, count) }
+    ensures front { take result buffer.new ≡ encode_header (true, count) }
 {
     let mut sink = Sink::new(buffer);
     put_header(&mut sink, count);
@@ -174,7 +174,7 @@ fn header_into(buffer: &mut [u8], count: u64) -> usize
 /// Writes a snapshot of the rows of a table.
 fn put_snapshot<T: Table<C>, const C: usize>(sink: &mut Sink<'_>, table: &T)
     requires { max_snapshot_len C ≤ space_of sink.old }
-    ensures appends { AppendsUpTo sink.old sink.new (text (snapshot true (T.rows table.now))) (max_snapshot_len C) }
+    ensures appends { AppendsUpTo sink.old sink.new (encode_tree (snapshot true (T.rows table.now))) (max_snapshot_len C) }
     ensures same { SameBuffer sink.old sink.new }
     ensures typed { AllByRecursion (IsRow true) (T.rows table.now) }
 {
@@ -189,7 +189,7 @@ fn put_snapshot<T: Table<C>, const C: usize>(sink: &mut Sink<'_>, table: &T)
 /// returns the snapshot's length.
 fn snapshot_into<T: Table<C>, const C: usize>(buffer: &mut [u8], table: &T) -> usize
     requires { max_snapshot_len C ≤ length buffer.old }
-    ensures front { take result buffer.new ≡ text (snapshot true (T.rows table.now)) }
+    ensures front { take result buffer.new ≡ encode_tree (snapshot true (T.rows table.now)) }
     ensures rest { drop result buffer.new ≡ drop result buffer.old }
     ensures within { result ≤ length buffer.new }
     ensures typed { AllByRecursion (IsRow true) (T.rows table.now) }
@@ -212,9 +212,9 @@ pub fn save_into<T: Table<C>, const C: usize>(table: &T, out: &mut [u8]) -> Opti
 
 /// Appends a row's map.
 fn write_row(row: &Row, out: &mut Vec<u8>) -> Result<(), AllocError>
-    ensures ok { OnOk result (out.new.items ≡ out.old.items ++ row_text true row.now) }
+    ensures ok { OnOk result (out.new.items ≡ out.old.items ++ encode_row true row.now) }
     ensures err { OnErr result (out.new.items ≡ out.old.items) }
-    ensures full { OnErr result (vec_capacity out.old < length out.old.items + length (row_text true row.now)) }
+    ensures full { OnErr result (vec_capacity out.old < length out.old.items + length (encode_row true row.now)) }
     ensures space { vec_capacity out.old ≤ vec_capacity out.new }
 {
     let mut buffer = [0; MAX_ROW_LEN];
@@ -224,9 +224,9 @@ fn write_row(row: &Row, out: &mut Vec<u8>) -> Result<(), AllocError>
 
 /// Appends the beginning of a snapshot.
 fn write_header(count: u64, out: &mut Vec<u8>) -> Result<(), AllocError>
-    ensures ok { OnOk result (out.new.items ≡ out.old.items ++ header_text (true, count)) }
+    ensures ok { OnOk result (out.new.items ≡ out.old.items ++ encode_header (true, count)) }
     ensures err { OnErr result (out.new.items ≡ out.old.items) }
-    ensures full { OnErr result (vec_capacity out.old < length out.old.items + length (header_text (true, count))) }
+    ensures full { OnErr result (vec_capacity out.old < length out.old.items + length (encode_header (true, count))) }
     ensures space { vec_capacity out.old ≤ vec_capacity out.new }
 {
     let mut buffer = [0; MAX_HEADER_LEN];

@@ -188,6 +188,7 @@ impl<'a> Iterator for ChainWalk<'a> {
 
     ghost remaining = { item_count (λ left. left) };
 
+    #[tactic(auto, using(crate::proofs::Chain::walk_step))]
     fn next(&mut self) -> Option<(u16, &'a Slot)> {
         let number = self.at?;
         let slots: &'a [Slot] = self.slots;

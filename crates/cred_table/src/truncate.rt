@@ -1,7 +1,7 @@
 //! Truncating names.
 
 ghost use Rattle.std.specs.Prelude.{◌≡◌};
-ghost use Rattle.cred_table.specs.Names.{IsCut, cut};
+ghost use Rattle.cred_table.specs.Rows.{IsCut, cut};
 
 /// Maximum length of a name in bytes.
 const MAX_NAME_LEN: usize = 64;

@@ -4,9 +4,9 @@ use Rattle.std.specs.{Prelude.pos, Prelude.negsuc, Str.is_utf8, Str.chars}
 use Rattle.ctap_cbor.specs.declared.fault.Kind.TheVariants.{Truncated, Reserved, NotShortest, TooDeep, KeyType}
 use Rattle.ctap_cbor.specs.declared.fault.Kind.TheVariants.{KeyOrder, NotUtf8, Unsupported}
 use Rattle.ctap_cbor.specs.Tree.{Int, Plain, Array, no_trees, tree, no_pairs, pair}
-use Rattle.ctap_cbor.specs.Head.{head, argument_len, argument, least_argument}
-use Rattle.ctap_cbor.specs.{Grammar.text, Faults.string_len}
-use Rattle.ctap_cbor.specs.Faults.{AnItem, AKey, fault, first_faults, body_faults, fault_steps, passed, item_len}
+use Rattle.ctap_cbor.specs.Grammar.{head, argument_len, argument, least_argument}
+use Rattle.ctap_cbor.specs.{Grammar.encode_tree, Items.string_len}
+use Rattle.ctap_cbor.specs.Items.{AnItem, AKey, fault, first_faults, body_faults, fault_steps, passed, item_len}
 use Rattle.ctap_cbor.specs.Outcome.{AtKey, Whole, Stopped, IsOutcome, steps}
 
 -- a2 02 00 01 00: a key not above the one before it
@@ -36,6 +36,6 @@ rows : (fault 4 AnItem [] ≡ Some Truncated) × (fault 4 AnItem (0x18 ∷ 0x05 
 unfolding first_faults body_faults argument_len argument least_argument item_len string_len is_utf8 chars
 rows = (refl, refl, refl, refl, refl, refl, refl, refl)
 
-lowest : text (Plain (Int (negsuc 18446744073709551615))) ≡ 0x3b ∷ replicate 8 0xff
+lowest : encode_tree (Plain (Int (negsuc 18446744073709551615))) ≡ 0x3b ∷ replicate 8 0xff
 unfolding head
 lowest = refl

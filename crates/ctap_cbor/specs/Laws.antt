@@ -1,11 +1,11 @@
 -- Laws of encoding and decoding that refer to the definitions alone, not to the code.
 use Rattle.std.specs.Prelude.{◌≡◌, ◌↔◌, ℕ, ◌+◌, ◌*◌, ◌≤◌, List, ◌++◌, length, Some, None}
-use Rattle.ctap_cbor.specs.{declared.fault.Kind.Kind, Head.AreBytes, Refusals.refusal, Faults.AnItem}
+use Rattle.ctap_cbor.specs.{declared.fault.Kind.Kind, Grammar.AreBytes, Items.refusal, Items.AnItem}
 use Rattle.ctap_cbor.specs.Tree.{Tree, Trees, depth, depth_all, count}
-use Rattle.ctap_cbor.specs.Grammar.{text, texts, IsLawful, AreLawful, IsEncoding, IsCanonical}
+use Rattle.ctap_cbor.specs.Grammar.{encode_tree, encode_trees, IsLawful, AreLawful, IsEncoding, IsCanonical}
 use Rattle.ctap_cbor.specs.Outcome.{Outcome, Whole, IsOutcome, result_of, steps}
-use Rattle.ctap_cbor.specs.Parts.{Part, item_text, IsAllowed}
-use Rattle.ctap_cbor.specs.Telling.{outcome_of, canonical_tree, check_steps, items_at}
+use Rattle.ctap_cbor.specs.Items.{Part, encode_item, IsAllowed}
+use Rattle.ctap_cbor.specs.Outcome.{outcome_of, canonical_tree, check_steps, items_at}
 use Rattle.ctap_cbor.specs.Reading.{Reading, cursor_at_start, rest_of, add_steps, Passes, Fails, HasNoByteLeft, HasTrailingBytes}
 
 -- Each byte string has exactly one outcome: either it is the encoding of one tree, or it has one first error.
@@ -20,7 +20,7 @@ NoEncodingIsAPrefix = (t u : Tree) (b c x y : List ℕ) → IsEncoding t b → I
 -- No head with its string content is a proper prefix of another, and no two items have the same head and content.
 abbrev pub NoHeadIsAPrefix : Type 0
 NoHeadIsAPrefix = (levels : ℕ) (i j : Part) (x y : List ℕ) → IsAllowed levels AnItem i → IsAllowed levels AnItem j
-    → item_text i ++ x ≡ item_text j ++ y → (i ≡ j) × (x ≡ y)
+    → encode_item i ++ x ≡ encode_item j ++ y → (i ≡ j) × (x ≡ y)
 
 -- Decoding n bytes takes at most 2 * n + 1 steps.
 abbrev pub StepsAreBounded : Type 0
@@ -33,12 +33,12 @@ EncodedTreesAreDecoded = (t : Tree) (b : List ℕ) → IsCanonical t b → (o : 
 -- If a tree's encoding is at a cursor's position, the cursor can read no other tree there.
 abbrev pub CursorReadsOneTree : Type 0
 CursorReadsOneTree = (levels : ℕ) (t u : Tree) (rest : List ℕ) (old new : Reading) → IsLawful t → depth t ≤ levels
-    → rest_of old ≡ text t ++ rest → Passes levels u old new → (u ≡ t) × (rest_of new ≡ rest)
+    → rest_of old ≡ encode_tree t ++ rest → Passes levels u old new → (u ≡ t) × (rest_of new ≡ rest)
 
 -- If a tree's encoding is at a cursor's position, no error is found there.
 abbrev pub CanonicalIsAccepted : Type 0
 CanonicalIsAccepted = (levels : ℕ) (t : Tree) (rest : List ℕ) (old new : Reading) (at : ℕ) (kind : Kind) → IsLawful t
-    → depth t ≤ levels → rest_of old ≡ text t ++ rest → Fails levels old new at kind → ⊥
+    → depth t ≤ levels → rest_of old ≡ encode_tree t ++ rest → Fails levels old new at kind → ⊥
 
 -- Decoding the encoding of a value returns the same value without an error.
 abbrev pub EncodedIsDecoded : Type 0
@@ -88,4 +88,4 @@ CheckStepsAreBounded = (b : List ℕ) → check_steps b ≤ 2 * length b + 1
 -- `items_at` returns the items from their concatenated encodings.
 abbrev pub ItemsAreDecoded : Type 0
 ItemsAreDecoded = (levels : ℕ) (ts : Trees) → AreLawful ts → depth_all ts ≤ levels →
-    items_at levels (count ts) (texts ts) ≡ ts
+    items_at levels (count ts) (encode_trees ts) ≡ ts

@@ -1,13 +1,19 @@
--- The state of a cursor, and how its calls change it.
-use Rattle.std.specs.Prelude.{◌≡◌, ℕ, ◌+◌, ◌≤◌, ◌<◌, min, max, List, [], ◌++◌, length, drop, Option, Some, None, Result}
-use Rattle.std.specs.Prelude.{Ok, Err, ◌⊎◌}
-use Rattle.ctap_cbor.specs.declared.fault.{Fault.Fault, Kind.Kind, Kind.TheVariants.Trailing}
+-- The state of a cursor, how its calls change it, and what they collect.
+use Rattle.std.specs.Prelude.{◌≡◌, ℕ, ◌+◌, ◌≤◌, ◌<◌, min, max, List, [], ◌++◌, length, drop, Option, Some, None}
+use Rattle.std.specs.Prelude.{Result, Ok, Err, ◌⊎◌, Bool, true, false, ◌&&◌}
+use Rattle.ctap_cbor.specs.declared.fault.Fault.{Fault}
+use Rattle.ctap_cbor.specs.declared.fault.Kind.{Kind}
+use Rattle.ctap_cbor.specs.declared.fault.Kind.TheVariants.{Trailing}
 use Rattle.ctap_cbor.specs.Tree.{Tree, Plain, Array, Map, Trees, Pairs, Scalar, depth, depth_all, depth_pairs, count}
-use Rattle.ctap_cbor.specs.{Tree.count_pairs, Outcome.later_keys_in_open}
-use Rattle.ctap_cbor.specs.Grammar.{text, texts, pair_texts, scalar_text, KeysAscend, IsLawful, AreLawful, AreLawfulPairs}
-use Rattle.ctap_cbor.specs.Faults.{Expected, AnItem, AKey, fault, passed, fault_steps}
-use Rattle.ctap_cbor.specs.Parts.{Part, One, OpensArray, OpensMap, item_text, IsAllowed}
-use Rattle.ctap_cbor.specs.Outcome.{Enclosing, open_encodings, last_key, FailsInside, later_keys, later_in_all, later_in_map}
+use Rattle.ctap_cbor.specs.Tree.{count_pairs, no_trees, no_pairs, push, push_pair}
+use Rattle.ctap_cbor.specs.Outcome.{later_keys_in_open, Enclosing, open_encodings, last_key, FailsInside, later_keys}
+use Rattle.ctap_cbor.specs.Outcome.{later_in_all, later_in_map}
+use Rattle.ctap_cbor.specs.Grammar.{encode_tree, encode_trees, encode_pairs, encode_scalar, KeysAscend, IsLawful}
+use Rattle.ctap_cbor.specs.Grammar.{AreLawful, AreLawfulPairs}
+use Rattle.ctap_cbor.specs.Items.{Expected, AnItem, AKey, fault, passed, fault_steps, Part, One, OpensArray, OpensMap}
+use Rattle.ctap_cbor.specs.Items.{encode_item, IsAllowed}
+
+-- ---- the state, and its changes
 
 -- The state of a cursor: the message, the position, and the number of steps so far.
 pub record Reading : Type 0 where
@@ -40,8 +46,8 @@ pub record MovesOn (old new : Reading) : Type 0 where
 -- The cursor reads an item: its head and, for a string, the content.
 pub record TakesItem (levels : ℕ) (old new : Reading) (part : Part) : Type 0 where
   pub suits : IsAllowed levels AnItem part
-  pub spelled : rest_of old ≡ item_text part ++ rest_of new
-  pub moved : new ≡ advance old (length (item_text part)) (length (item_text part))
+  pub spelled : rest_of old ≡ encode_item part ++ rest_of new
+  pub moved : new ≡ advance old (length (encode_item part)) (length (encode_item part))
 
 -- The item at the cursor's position has this error.
 pub record HasItemError (levels : ℕ) (due : Expected) (old new : Reading) (at : ℕ) (kind : Kind) : Type 0 where
@@ -57,23 +63,23 @@ comparison_steps (Some before) n = n
 -- The cursor reads a map key.
 pub record TakesKey (last : Option (List ℕ)) (old new : Reading) (s : Scalar) : Type 0 where
   pub suits : IsAllowed 0 (AKey last) (One s)
-  pub spelled : rest_of old ≡ scalar_text s ++ rest_of new
-  pub moved : new ≡ advance old (length (scalar_text s))
-      (length (scalar_text s) + comparison_steps last (length (scalar_text s)))
+  pub spelled : rest_of old ≡ encode_scalar s ++ rest_of new
+  pub moved : new ≡ advance old (length (encode_scalar s))
+      (length (encode_scalar s) + comparison_steps last (length (encode_scalar s)))
 
 -- The cursor reads a map key, and returns its encoding.
 pub record GivesKey (last : Option (List ℕ)) (old new : Reading) (part : Part) (bytes : List ℕ) : Type 0 where
   pub key : Scalar
   pub part_is : part ≡ One key
-  pub bytes_is : bytes ≡ scalar_text key
+  pub bytes_is : bytes ≡ encode_scalar key
   pub takes : TakesKey last old new key
 
 -- The cursor reads an item with its content.
 pub record Passes (levels : ℕ) (tree : Tree) (old new : Reading) : Type 0 where
   pub lawful : IsLawful tree
   pub flat : depth tree ≤ levels
-  pub spelled : rest_of old ≡ text tree ++ rest_of new
-  pub moved : new ≡ advance old (length (text tree)) (length (text tree) + later_keys tree)
+  pub spelled : rest_of old ≡ encode_tree tree ++ rest_of new
+  pub moved : new ≡ advance old (length (encode_tree tree)) (length (encode_tree tree) + later_keys tree)
 
 -- The cursor finds an error inside zero or more unfinished arrays and maps.
 pub record Fails (levels : ℕ) (old new : Reading) (at : ℕ) (kind : Kind) : Type 0 where
@@ -90,8 +96,8 @@ pub record PassesAll (levels n : ℕ) (done : Trees) (old new : Reading) : Type 
   pub lawful : AreLawful done
   pub flat : depth_all done ≤ levels
   pub number : count done ≡ n
-  pub spelled : rest_of old ≡ texts done ++ rest_of new
-  pub moved : new ≡ advance old (length (texts done)) (length (texts done) + later_in_all done)
+  pub spelled : rest_of old ≡ encode_trees done ++ rest_of new
+  pub moved : new ≡ advance old (length (encode_trees done)) (length (encode_trees done) + later_in_all done)
 
 -- The cursor reads fewer than `n` items of an array, and then finds an error in the next item.
 pub record FailsInArray (levels n : ℕ) (old new : Reading) (at : ℕ) (kind : Kind) : Type 0 where
@@ -109,8 +115,8 @@ pub record PassesPairs (levels n : ℕ) (done : Pairs) (last : Option (List ℕ)
   pub flat : depth_pairs done ≤ levels
   pub number : count_pairs done ≡ n
   pub last_is : last ≡ last_key None done
-  pub spelled : rest_of old ≡ pair_texts done ++ rest_of new
-  pub moved : new ≡ advance old (length (pair_texts done)) (length (pair_texts done) + later_in_map done)
+  pub spelled : rest_of old ≡ encode_pairs done ++ rest_of new
+  pub moved : new ≡ advance old (length (encode_pairs done)) (length (encode_pairs done) + later_in_map done)
 
 -- The cursor reads fewer than `n` pairs of a map, and then finds an error in the next key.
 pub record FailsAtKey (levels n : ℕ) (old new : Reading) (at : ℕ) (kind : Kind) : Type 0 where
@@ -171,3 +177,48 @@ pub record HasTrailingBytes (old new : Reading) (at : ℕ) (kind : Kind) : Type 
   pub place : at ≡ old.place
   pub is_trailing : kind ≡ Trailing
   pub moved : new ≡ old
+
+-- How the members of a map, or the entries of an array, are collected while a cursor reads them. `H m ok ps` states
+-- that `m` was collected from the pairs or entries `ps`, and that `ok` is whether all of them were accepted.
+
+-- The effect of collecting the pairs of this item on the collector, from `before` to `after`. `taken` is true if the
+-- item is a map and all its pairs were accepted. An item of another type leaves the collector unchanged.
+abbrev pub InMap : {M : Type 0} → (M → Bool → Pairs → Type 0) → Bool → M → M → Tree → Type 0
+InMap H taken before after (Map ps) = H before true no_pairs → H after taken ps
+InMap H taken before after _ = (taken ≡ false) × (after ≡ before)
+
+-- The effect of collecting the entries of this item on the collector, from `before` to `after`. `taken` is true if the
+-- item is an array and all its entries were accepted. An item of another type leaves the collector unchanged.
+abbrev pub InArray : {M : Type 0} → (M → Bool → Trees → Type 0) → Bool → M → M → Tree → Type 0
+InArray H taken before after (Array ts) = H before true no_trees → H after taken ts
+InArray H taken before after _ = (taken ≡ false) × (after ≡ before)
+
+-- The cursor reads a value, and the collector accepts or skips it with its key.
+abbrev pub AddsPair : {M : Type 0} → (M → Bool → Pairs → Type 0) → ℕ → Part → Bool → M → M → Reading → Reading → Type 0
+AddsPair H levels key taken before after old new = (v : Tree) × Passes levels v old new
+    × ((ok : Bool) (ps : Pairs) (k : Scalar) → key ≡ One k → H before ok ps
+    → H after (ok && taken) (push_pair ps (Plain k) v))
+
+-- The cursor reads an entry, and the collector accepts or skips it.
+abbrev pub AddsEntry : {M : Type 0} → (M → Bool → Trees → Type 0) → ℕ → Bool → M → M → Reading → Reading → Type 0
+AddsEntry H levels taken before after old new = (t : Tree) × Passes levels t old new
+    × ((ok : Bool) (ts : Trees) → H before ok ts → H after (ok && taken) (push ts t))
+
+-- The cursor reads `n` pairs, and the collector handles each of them.
+abbrev pub AddsPairs : {M : Type 0} → (M → Bool → Pairs → Type 0) → ℕ → ℕ → Option (List ℕ) → Bool → M → M → Reading
+    → Reading → Type 0
+AddsPairs H levels n last ok before after old new = (ps : Pairs) × PassesPairs levels n ps last old new
+    × (H before true no_pairs → H after ok ps)
+
+-- The cursor reads `n` entries, and the collector handles each of them.
+abbrev pub AddsEntries : {M : Type 0} → (M → Bool → Trees → Type 0) → ℕ → ℕ → Bool → M → M → Reading → Reading → Type 0
+AddsEntries H levels n ok before after old new = (ts : Trees) × PassesAll levels n ts old new
+    × (H before true no_trees → H after ok ts)
+
+-- The cursor reads an item. If the item is a map, its pairs are collected.
+abbrev pub ReadsMap : {M : Type 0} → (M → Bool → Pairs → Type 0) → ℕ → Bool → M → M → Reading → Reading → Type 0
+ReadsMap H levels taken before after old new = (t : Tree) × Passes levels t old new × InMap H taken before after t
+
+-- The cursor reads an item. If the item is an array, its entries are collected.
+abbrev pub ReadsArray : {M : Type 0} → (M → Bool → Trees → Type 0) → ℕ → Bool → M → M → Reading → Reading → Type 0
+ReadsArray H levels taken before after old new = (t : Tree) × Passes levels t old new × InArray H taken before after t

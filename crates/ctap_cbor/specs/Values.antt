@@ -4,7 +4,7 @@ use Rattle.ctap_cbor.specs.declared.fault.{Fault.Fault, Kind.TheVariants.Memory}
 use Rattle.ctap_cbor.specs.declared.value.Value.{Value, Value-F, fold-Value}
 use Rattle.ctap_cbor.specs.declared.value.Value.TheOpen as layer
 use Rattle.ctap_cbor.specs.Tree as tree
-use Rattle.ctap_cbor.specs.{Grammar.Fits, Parts.Part, Parts.One}
+use Rattle.ctap_cbor.specs.{Grammar.Fits, Items.Part, Items.One}
 use Rattle.ctap_cbor.specs.Tree.{Scalar, Tree, Plain, Array, Map, Trees, no_trees, Pairs, no_pairs, pair}
 
 -- Converts a list of trees to `Trees`.

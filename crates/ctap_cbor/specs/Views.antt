@@ -5,10 +5,10 @@ use Rattle.ctap_cbor.specs.declared.{fault.Fault.Fault, fault.Kind.Kind, item.It
 use Rattle.ctap_cbor.specs.declared.fault.Kind.TheVariants.{Truncated, KeyOrder}
 use Rattle.ctap_cbor.specs.declared.item.Item.TheVariants.{Int, Bytes, Text, Array, Map, Bool as Logical, Null}
 use Rattle.std.specs.Prelude.{Bool}
-use Rattle.ctap_cbor.specs.Faults.{Expected, AnItem, AKey, first_fault_of, body_faults, passed}
-use Rattle.ctap_cbor.specs.Head.{info, argument, argument_len, least_argument}
+use Rattle.ctap_cbor.specs.Items.{Expected, AnItem, AKey, first_fault_of, body_faults, passed}
+use Rattle.ctap_cbor.specs.Grammar.{info, argument, argument_len, least_argument}
 use Rattle.ctap_cbor.specs.Tree as tree
-use Rattle.ctap_cbor.specs.Parts.{Part, One, OpensArray, OpensMap, item_text, IsAllowed}
+use Rattle.ctap_cbor.specs.Items.{Part, One, OpensArray, OpensMap, encode_item, IsAllowed}
 use Rattle.ctap_cbor.specs.Reading.{Reading, rest_of}
 
 -- Converts the code's type `Item` to `Part`.
@@ -31,7 +31,7 @@ head_tree (OpensMap n) = tree.Map tree.no_pairs
 -- read.
 abbrev pub ReadsItem : ℕ → Reading → Reading → Result Item Fault → Type 0
 ReadsItem levels old new result =
-    (i : Part) (rest : List ℕ) → IsAllowed levels AnItem i → rest_of old ≡ item_text i ++ rest
+    (i : Part) (rest : List ℕ) → IsAllowed levels AnItem i → rest_of old ≡ encode_item i ++ rest
     → IsOkAnd result (λ j. (to_part j ≡ i) × (rest_of new ≡ rest))
 
 -- The code's result equals that of the definition `read`, and the number of bytes read is `passed`.

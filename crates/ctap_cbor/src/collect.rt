@@ -3,7 +3,7 @@
 ghost use Rattle.std.specs.Prelude.{Bool, ◌-◌, ◌≤◌, MatchResult};
 ghost use Rattle.ctap_cbor.specs.Views.{to_part};
 ghost use Rattle.ctap_cbor.specs.Reading.{Fails};
-ghost use Rattle.ctap_cbor.specs.Collecting.{AddsPair, AddsEntry, ReadsMap, ReadsArray};
+ghost use Rattle.ctap_cbor.specs.Reading.{AddsPair, AddsEntry, ReadsMap, ReadsArray};
 
 use crate::cursor::Cursor;
 use crate::fault::Fault;

@@ -2,9 +2,9 @@
 
 ghost use Rattle.std.specs.Prelude.{◌≡◌, ◌-◌, ◌+◌, ◌≤◌, length, take, drop, MatchResult, Ok, Err};
 ghost use Rattle.std.specs.Option.{option_copied};
-ghost use Rattle.ctap_cbor.specs.Head.{AreBytes};
-ghost use Rattle.ctap_cbor.specs.Faults.{AnItem, AKey};
-ghost use Rattle.ctap_cbor.specs.Parts.{read, IsAllowed};
+ghost use Rattle.ctap_cbor.specs.Grammar.{AreBytes};
+ghost use Rattle.ctap_cbor.specs.Items.{AnItem, AKey};
+ghost use Rattle.ctap_cbor.specs.Items.{read, IsAllowed};
 ghost use Rattle.ctap_cbor.specs.Views.{to_part, ReadsItem, end_steps_of};
 ghost use Rattle.ctap_cbor.specs.Reading.{Reading, rest_of, advance, TakesItem, HasItemError, GivesKey, HasNoByteLeft, HasTrailingBytes};
 ghost use Rattle.ctap_cbor.specs.Reading.{PassesOne, PassesHead, Fails, IsOnlyResult, MovesOn};

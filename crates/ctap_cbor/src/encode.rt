@@ -2,13 +2,13 @@
 
 ghost use Rattle.std.specs.Prelude.{◌≡◌, ◌≢◌, ◌++◌, ◌∷◌, [], ◌<◌, ◌≤◌, length, drop, Some, Err, OnOk, OnErr, IfErr, MatchResult, vec_capacity};
 ghost use Rattle.std.specs.Option.{ForSome};
-ghost use Rattle.ctap_cbor.specs.Head.{head};
+ghost use Rattle.ctap_cbor.specs.Grammar.{head};
 ghost use Rattle.ctap_cbor.specs.Tree as tree;
-ghost use Rattle.ctap_cbor.specs.Grammar.{scalar_text, text, texts, pair_texts, IsCanonical};
-ghost use Rattle.ctap_cbor.specs.Faults.{AKey, is_above};
+ghost use Rattle.ctap_cbor.specs.Grammar.{encode_scalar, encode_tree, encode_trees, encode_pairs, IsCanonical};
+ghost use Rattle.ctap_cbor.specs.Items.{AKey, is_above};
 ghost use Rattle.ctap_cbor.specs.Values.{to_tree, to_trees, to_pairs};
-ghost use Rattle.ctap_cbor.specs.Refusals.{refusal, refusal_all, refusal_pairs, own_refusal, range_refusal};
-ghost use Rattle.ctap_cbor.specs.Writes.{Writes, WritesAll, WritesPairs, WritesKey, WritesScalar, FailsWith, Extends, IsShort, last_text};
+ghost use Rattle.ctap_cbor.specs.Items.{refusal, refusal_all, refusal_pairs, own_refusal, range_refusal};
+ghost use Rattle.ctap_cbor.specs.Writing.{Writes, WritesAll, WritesPairs, WritesKey, WritesScalar, FailsWith, Extends, IsShort, previous_encoding};
 
 use crate::fault::Kind;
 use crate::laws::byte_bounds;
@@ -48,14 +48,14 @@ impl<T: Drop> From<AllocFailed<T>> for Kind {
 /// too deep (4), and then its content. For another integer: its range (8). Fails with 10 if an allocation fails, which
 /// is possible only if the capacity of the vector is too small. On failure, the vector is unchanged.
 pub fn encode_value(value: &Value, out: &mut Vec<u8>) -> Result<(), Kind>
-    ensures ok { OnOk result (IsCanonical (to_tree value.now) (text (to_tree value.now))) }
-    ensures appends { OnOk result (out.new.items ≡ out.old.items ++ text (to_tree value.now)) }
+    ensures ok { OnOk result (IsCanonical (to_tree value.now) (encode_tree (to_tree value.now))) }
+    ensures appends { OnOk result (out.new.items ≡ out.old.items ++ encode_tree (to_tree value.now)) }
     ensures err { IfErr result (λ k. k ≢ Kind.Memory → refusal 4 (to_tree value.now) ≡ Some k) }
     ensures unchanged { OnErr result (out.new.items ≡ out.old.items) }
 
     // An allocation fails only if the vector has to grow.
     ensures memory { result ≡ Err Kind.Memory → IsShort (vec_capacity out.old) out.old.items
-        (text (to_tree value.now)) }
+        (encode_tree (to_tree value.now)) }
 {
     let len = out.len();
     let written = write_value(value, out, 4);
@@ -73,7 +73,7 @@ fn write_value(value: &Value, out: &mut Vec<u8>, levels: u8) -> Result<(), Kind>
         (λ k. FailsWith k (refusal levels (to_tree value.now)) out.old.items out.new.items) }
     ensures grows { vec_capacity out.old ≤ vec_capacity out.new }
     ensures short { IfErr result (λ k. k ≡ Kind.Memory
-        → IsShort (vec_capacity out.old) out.old.items (text (to_tree value.now))) }
+        → IsShort (vec_capacity out.old) out.old.items (encode_tree (to_tree value.now))) }
 {
     match value {
         Value::Int(i) => write_int(*i, out),
@@ -94,7 +94,7 @@ fn write_array(items: &[Value], out: &mut Vec<u8>, levels: u8) -> Result<(), Kin
         (λ k. FailsWith k (refusal levels (tree.Array (to_trees items.now))) out.old.items out.new.items) }
     ensures grows { vec_capacity out.old ≤ vec_capacity out.new }
     ensures short { IfErr result (λ k. k ≡ Kind.Memory
-        → IsShort (vec_capacity out.old) out.old.items (text (tree.Array (to_trees items.now)))) }
+        → IsShort (vec_capacity out.old) out.old.items (encode_tree (tree.Array (to_trees items.now)))) }
 {
     if levels == 0 {
         return Err(Kind::TooDeep);
@@ -111,7 +111,7 @@ fn write_map(pairs: &[(Value, Value)], out: &mut Vec<u8>, levels: u8) -> Result<
         (λ k. FailsWith k (refusal levels (tree.Map (to_pairs pairs.now))) out.old.items out.new.items) }
     ensures grows { vec_capacity out.old ≤ vec_capacity out.new }
     ensures short { IfErr result (λ k. k ≡ Kind.Memory
-        → IsShort (vec_capacity out.old) out.old.items (text (tree.Map (to_pairs pairs.now)))) }
+        → IsShort (vec_capacity out.old) out.old.items (encode_tree (tree.Map (to_pairs pairs.now)))) }
 {
     if levels == 0 {
         return Err(Kind::TooDeep);
@@ -128,7 +128,7 @@ fn write_items(items: &[Value], out: &mut Vec<u8>, levels: u8) -> Result<(), Kin
         (λ k. FailsWith k (refusal_all levels (to_trees items.now)) out.old.items out.new.items) }
     ensures grows { vec_capacity out.old ≤ vec_capacity out.new }
     ensures short { IfErr result (λ k. k ≡ Kind.Memory
-        → IsShort (vec_capacity out.old) out.old.items (texts (to_trees items.now))) }
+        → IsShort (vec_capacity out.old) out.old.items (encode_trees (to_trees items.now))) }
 {
     for item in items {
         write_value(item, out, levels)?;
@@ -144,7 +144,7 @@ fn write_pairs(pairs: &[(Value, Value)], out: &mut Vec<u8>, levels: u8) -> Resul
         (λ k. FailsWith k (refusal_pairs levels None (to_pairs pairs.now)) out.old.items out.new.items) }
     ensures grows { vec_capacity out.old ≤ vec_capacity out.new }
     ensures short { IfErr result (λ k. k ≡ Kind.Memory
-        → IsShort (vec_capacity out.old) out.old.items (pair_texts (to_pairs pairs.now))) }
+        → IsShort (vec_capacity out.old) out.old.items (encode_pairs (to_pairs pairs.now))) }
 {
     let mut previous = None;
     for pair in pairs {
@@ -169,7 +169,7 @@ fn write_key(key: &Value, out: &mut Vec<u8>) -> Result<(), Kind>
         (λ k. FailsWith k (own_refusal (to_tree key.now)) out.old.items out.new.items) }
     ensures grows { vec_capacity out.old ≤ vec_capacity out.new }
     ensures short { IfErr result (λ k. k ≡ Kind.Memory
-        → IsShort (vec_capacity out.old) out.old.items (text (to_tree key.now))) }
+        → IsShort (vec_capacity out.old) out.old.items (encode_tree (to_tree key.now))) }
 {
     match key {
         Value::Int(i) => write_int(*i, out),
@@ -183,7 +183,7 @@ fn write_key(key: &Value, out: &mut Vec<u8>) -> Result<(), Kind>
 fn is_above_last(previous: Option<Span>, out: &[u8], start: usize) -> bool
     requires span { ForSome previous (λ s. (s.start ≤ s.end) × (s.end ≤ length out.now)) }
     requires start { start ≤ length out.now }
-    ensures { result ≡ is_above (AKey (last_text out.now previous)) (drop start out.now) }
+    ensures { result ≡ is_above (AKey (previous_encoding out.now previous)) (drop start out.now) }
 {
     match previous {
         None => true,
@@ -198,7 +198,7 @@ fn write_int(value: i128, out: &mut Vec<u8>) -> Result<(), Kind>
         (λ k. FailsWith k (range_refusal (tree.Int value)) out.old.items out.new.items) }
     ensures grows { vec_capacity out.old ≤ vec_capacity out.new }
     ensures short { IfErr result (λ k. k ≡ Kind.Memory
-        → IsShort (vec_capacity out.old) out.old.items (scalar_text (tree.Int value))) }
+        → IsShort (vec_capacity out.old) out.old.items (encode_scalar (tree.Int value))) }
 {
     if !(-0x1_0000_0000_0000_0000 <= value && value <= 0xffff_ffff_ffff_ffff) {
         return Err(Kind::Unsupported);
@@ -218,7 +218,7 @@ fn write_bytes(bytes: &[u8], out: &mut Vec<u8>) -> Result<(), Kind>
         (λ k. (k ≡ Kind.Memory) × Extends out.old.items out.new.items) }
     ensures grows { vec_capacity out.old ≤ vec_capacity out.new }
     ensures short { IfErr result (λ k. k ≡ Kind.Memory
-        → IsShort (vec_capacity out.old) out.old.items (scalar_text (tree.Bytes bytes.now))) }
+        → IsShort (vec_capacity out.old) out.old.items (encode_scalar (tree.Bytes bytes.now))) }
 {
     byte_bounds(bytes);
     write_head(2, bytes.len() as u64, out)?;
@@ -233,7 +233,7 @@ fn write_text(text: &str, out: &mut Vec<u8>) -> Result<(), Kind>
         (λ k. (k ≡ Kind.Memory) × Extends out.old.items out.new.items) }
     ensures grows { vec_capacity out.old ≤ vec_capacity out.new }
     ensures short { IfErr result (λ k. k ≡ Kind.Memory
-        → IsShort (vec_capacity out.old) out.old.items (scalar_text (tree.Text text.now))) }
+        → IsShort (vec_capacity out.old) out.old.items (encode_scalar (tree.Text text.now))) }
 {
     write_head(3, text.len() as u64, out)?;
     out.extend_from_slice(text.as_bytes())?;

@@ -1,11 +1,11 @@
 //! Errors of decoding and encoding.
 
 ghost use Rattle.std.specs.Prelude.{◌≡◌};
-ghost use Rattle.ctap_cbor.specs.Faults.{number_of};
+ghost use Rattle.ctap_cbor.specs.Items.{number_of};
 
 use thiserror::Error;
 
-/// An error kind. If several apply to an item, the first in the order of `specs/Faults.antt` is reported.
+/// An error kind. If several apply to an item, the first in the order of `specs/Items.antt` is reported.
 #[derive(Clone, Copy, Debug, PartialEq, Eq, Error)]
 pub enum Kind {
     /// The input ends before an item, or inside one.

@@ -2,9 +2,9 @@
 
 ghost use Rattle.std.specs.Prelude.{◌≡◌, ◌<◌, ◌≤◌, length, MatchOption, true, false};
 ghost use Rattle.std.specs.Str.{is_utf8};
-ghost use Rattle.ctap_cbor.specs.Head.{info, argument_len, argument, least_argument};
-ghost use Rattle.ctap_cbor.specs.Faults.{first_fault_of, first_faults};
-ghost use Rattle.ctap_cbor.specs.Parts.{read};
+ghost use Rattle.ctap_cbor.specs.Grammar.{info, argument_len, argument, least_argument};
+ghost use Rattle.ctap_cbor.specs.Items.{first_fault_of, first_faults};
+ghost use Rattle.ctap_cbor.specs.Items.{read};
 ghost use Rattle.ctap_cbor.specs.Views.{IsDecodedItem, IsHeadArgument, to_part, expected_of};
 
 use crate::fault::Kind;
@@ -13,7 +13,7 @@ use byteorder::{BigEndian, ByteOrder};
 
 /// Decodes the item or key at the beginning of the input, and returns it with its length. On failure, returns the error
 /// and the number of bytes that count as read. Doesn't check the order of keys.
-#[tactic(auto, unfolding(crate::specs::Faults::body_faults, crate::specs::Faults::string_len, crate::specs::Faults::item_len, crate::specs::Faults::passed))]
+#[tactic(auto, unfolding(crate::specs::Items::body_faults, crate::specs::Items::string_len, crate::specs::Items::item_len, crate::specs::Items::passed))]
 #[inline(always)]
 pub(crate) fn find<'a>(
     bytes: &'a [u8],
@@ -59,7 +59,7 @@ pub(crate) fn find<'a>(
 }
 
 /// Returns the first error that the initial byte determines, if any.
-#[tactic(auto, unfolding(crate::specs::Faults::first_faults))]
+#[tactic(auto, unfolding(crate::specs::Items::first_faults))]
 fn first_fault(first: u8, levels: u8, is_key: bool) -> Option<Kind>
     ensures { result ≡ first_fault_of (first_faults levels (expected_of is_key) first) }
 {
@@ -81,7 +81,7 @@ fn first_fault(first: u8, levels: u8, is_key: bool) -> Option<Kind>
 
 /// Returns the argument of the head with this initial byte, and the number of bytes that encode the argument after the
 /// initial byte. On failure, returns the error and the number of bytes that count as read.
-#[tactic(auto, unfolding(crate::specs::Faults::body_faults, crate::specs::Faults::passed, crate::specs::Head::argument, crate::specs::Head::argument_len, crate::specs::Head::least_argument))]
+#[tactic(auto, unfolding(crate::specs::Items::body_faults, crate::specs::Items::passed, crate::specs::Grammar::argument, crate::specs::Grammar::argument_len, crate::specs::Grammar::least_argument))]
 #[inline(always)]
 fn find_argument(first: u8, rest: &[u8]) -> Result<(u64, usize), (Kind, usize)>
     requires { info first < 28 }

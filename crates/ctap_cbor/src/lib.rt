@@ -40,7 +40,7 @@
 //! Only `decode_value` and `encode_value` allocate: as items are read, and as the output grows. Nesting is limited to
 //! four levels. Counts in heads cause no allocation.
 //!
-//! The canonical encoding is defined in `specs/Grammar.antt`, the order of errors in `specs/Faults.antt` and
+//! The canonical encoding is defined in `specs/Grammar.antt`, the order of errors in `specs/Items.antt` and
 //! `specs/Outcome.antt`, and a cursor's calls in `specs/Reading.antt`.
 //!
 //! Standards: CTAP 2.1, "Message Encoding"; RFC 8949, sections 3 (encoding) and 4.2 (deterministic encoding).

@@ -1,9 +1,9 @@
 //! Encodes into a borrowed buffer, each head in its shortest form.
 
 ghost use Rattle.std.specs.Prelude.{◌≡◌, ◌<◌, ◌≤◌, ◌↔◌, IsTrue, [], ◌∷◌, length, take};
-ghost use Rattle.ctap_cbor.specs.Head.{head, head_len};
+ghost use Rattle.ctap_cbor.specs.Grammar.{head, head_len};
 ghost use Rattle.ctap_cbor.specs.Tree.{Int, Bytes, Text, Flag, Null};
-ghost use Rattle.ctap_cbor.specs.Grammar.{scalar_text, Fits};
+ghost use Rattle.ctap_cbor.specs.Grammar.{encode_scalar, Fits};
 
 /// Writes CBOR to a borrowed buffer, from the beginning. Scalars are written whole. For an array or map, only the head
 /// is written. The caller then writes the items, or the keys and values in ascending order of the encoded keys. Each
@@ -52,10 +52,11 @@ impl<'a> Sink<'a> {
     }
 
     /// Writes an integer from -2^64 to 2^64-1.
+    #[tactic(auto)]
     pub fn int(&mut self, value: i128)
         requires range { Fits (Int value) }
         requires space { scalar_len (Int value) ≤ space_of self.old }
-        ensures appends { Appends self.old self.new (scalar_text (Int value)) (scalar_len (Int value)) }
+        ensures appends { Appends self.old self.new (encode_scalar (Int value)) (scalar_len (Int value)) }
         ensures same { SameBuffer self.old self.new }
     {
         if value >= 0 {
@@ -68,7 +69,7 @@ impl<'a> Sink<'a> {
     /// Writes a byte string.
     pub fn bytes(&mut self, value: &[u8])
         requires { scalar_len (Bytes value.now) ≤ space_of self.old }
-        ensures appends { Appends self.old self.new (scalar_text (Bytes value.now)) (scalar_len (Bytes value.now)) }
+        ensures appends { Appends self.old self.new (encode_scalar (Bytes value.now)) (scalar_len (Bytes value.now)) }
         ensures same { SameBuffer self.old self.new }
     {
         self.head(2, value.len() as u64);
@@ -78,7 +79,7 @@ impl<'a> Sink<'a> {
     /// Writes a text string.
     pub fn text(&mut self, value: &str)
         requires { scalar_len (Text value.now) ≤ space_of self.old }
-        ensures appends { Appends self.old self.new (scalar_text (Text value.now)) (scalar_len (Text value.now)) }
+        ensures appends { Appends self.old self.new (encode_scalar (Text value.now)) (scalar_len (Text value.now)) }
         ensures same { SameBuffer self.old self.new }
     {
         self.head(3, value.len() as u64);
@@ -106,7 +107,7 @@ impl<'a> Sink<'a> {
     /// Writes a Boolean.
     pub fn flag(&mut self, value: bool)
         requires { 1 ≤ space_of self.old }
-        ensures appends { Appends self.old self.new (scalar_text (Flag value)) 1 }
+        ensures appends { Appends self.old self.new (encode_scalar (Flag value)) 1 }
         ensures same { SameBuffer self.old self.new }
     {
         self.extend(&[if value { 0xf5 } else { 0xf4 }]);
@@ -115,7 +116,7 @@ impl<'a> Sink<'a> {
     /// Writes null.
     pub fn null(&mut self)
         requires { 1 ≤ space_of self.old }
-        ensures appends { Appends self.old self.new (scalar_text Null) 1 }
+        ensures appends { Appends self.old self.new (encode_scalar Null) 1 }
         ensures same { SameBuffer self.old self.new }
     {
         self.extend(&[0xf6]);
@@ -147,7 +148,7 @@ impl<'a> Sink<'a> {
 
 /// Writes the shortest head with this major type and argument to the beginning of a buffer, and returns the length of
 /// the head. The buffer must be large enough for any head.
-#[tactic(auto, unfolding(crate::specs::Head::head))]
+#[tactic(auto, unfolding(crate::specs::Grammar::head))]
 pub fn head_into(major: u8, argument: u64, out: &mut [u8]) -> usize
     requires low { major < 8 }
     requires space { 9 ≤ length out.old }

@@ -1,13 +1,18 @@
 -- The types of parameters, those that have to be there, and the order of the checks, by computation: a request that is
 -- taken, and
 -- the same request with other parameters.
-use Rattle.std.proofs.Common.{◌≡◌, ℕ, true, false, Bool, List, [], Option, Some, None, Result, Ok, Err, replicate, refl}
+use Rattle.std.proofs.Common.{◌≡◌, ℕ, true, false, Bool, List, [], Option, Some, None, Result, Ok, Err, replicate}
+use Rattle.std.proofs.Common.{refl, ◌∷◌}
 use Rattle.std.specs.Prelude.{pos, negsuc, codes}
 use Rattle.ctap_cbor.specs.Tree.{Int, Bytes, Text, Flag, Null, Tree, Plain, Array, Map, Trees, no_trees, tree, Pairs}
 use Rattle.ctap_cbor.specs.Tree.{no_pairs, pair}
-use Rattle.ctap_message.specs.Asked.{RequestParameters, MakeCredential, GetAssertion}
+use Rattle.ctap_message.specs.Requests.{ParsedRequest, MakeCredential, GetAssertion}
 use Rattle.ctap_message.specs.Members.{value_at, all_entries, some_entry, all_pairs}
-use Rattle.ctap_message.specs.{MakeCredential.make_request, GetAssertion.assertion_request}
+use Rattle.ctap_message.specs.Requests.{make_request}
+use Rattle.ctap_message.specs.Requests.{assertion_request}
+use Rattle.ctap_message.specs.declared.fault.RequestFault.{RequestFault}
+use Rattle.ctap_message.specs.RequestFaults.{assertion_fault_in, make_fault_in, fault_in}
+use Rattle.ctap_message.specs.declared.fault.RequestFault.TheVariants as because
 
 -- ---- trees
 
@@ -80,7 +85,7 @@ make_tree m =
     (with 0x07 m.options (with 0x08 m.pin_uv_auth_param
     (with 0x09 m.pin_uv_auth_protocol (with 0x0a m.enterprise_attestation no_pairs)))))))))))
 
-abbrev make : Make → Result RequestParameters ℕ
+abbrev make : Make → Result ParsedRequest ℕ
 make m = make_request (make_tree m)
 
 abbrev pub base : Make
@@ -99,7 +104,7 @@ base =
     }
 
 -- what this request asks, with these descriptors
-abbrev taken_with : Trees → Result RequestParameters ℕ
+abbrev taken_with : Trees → Result ParsedRequest ℕ
 taken_with listed = Ok (MakeCredential (replicate 32 0x11) (codes "b") (replicate 1 0x11) [] false listed)
 
 -- what is taken: as it stands; with all that may be given; a user id of 64 bytes; keys that aren't known
@@ -232,7 +237,7 @@ assertion_tree a =
     (Map (with 0x01 a.rp_id (with 0x02 a.client_data_hash (with 0x03 a.allow_list (with 0x04 a.extensions
     (with 0x05 a.options (with 0x06 a.pin_uv_auth_param (with 0x07 a.pin_uv_auth_protocol no_pairs))))))))
 
-abbrev assertion : Assertion → Result RequestParameters ℕ
+abbrev assertion : Assertion → Result ParsedRequest ℕ
 assertion a = assertion_request (assertion_tree a)
 
 abbrev pub asking : Assertion
@@ -313,3 +318,78 @@ assertion_order :
     × (assertion (record asking { options = Some (two (codes "rk") (flag true) (codes "uv") (flag true)) }) ≡ Err 0x2c)
 unfolding value_at all_entries some_entry all_pairs
 assertion_order = (refl, refl, refl, refl, refl)
+
+-- ---- why a request is refused, by computation: each check alone, with what it compared, and the order of the checks
+
+-- the command byte alone, and what is behind it
+messages :
+    (fault_in [] ≡ Some because.Empty)
+    × (fault_in (0x05 ∷ 0xa0 ∷ []) ≡ Some (because.NoSuchCommand 0x05))
+    × (fault_in (0x04 ∷ []) ≡ None)
+    × (fault_in (0x07 ∷ 0xa0 ∷ []) ≡ Some (because.Trailing 1))
+    × (fault_in (0x08 ∷ 0xa0 ∷ 0x00 ∷ []) ≡ Some (because.Trailing 2))
+    × (fault_in (0x0b ∷ 0x00 ∷ 0x00 ∷ 0x00 ∷ []) ≡ Some (because.Trailing 3))
+unfolding fault_in
+messages = (refl, refl, refl, refl, refl, refl)
+
+abbrev make_fault : Make → Option RequestFault
+make_fault m = make_fault_in (make_tree m)
+
+-- each parameter that has to be there, left out, inside too
+make_faults_missing :
+    (make_fault base ≡ None)
+    × (make_fault (record base { rp = Some (text (codes "b")) }) ≡ Some because.WrongType)
+    × (make_fault (record base { client_data_hash = None }) ≡ Some (because.Missing 0x01 0x01))
+    × (make_fault (record base { rp = None }) ≡ Some (because.Missing 0x01 0x02))
+    × (make_fault (record base { rp = Some (Map no_pairs) }) ≡ Some (because.Missing 0x01 0x02))
+    × (make_fault (record base { user = None }) ≡ Some (because.Missing 0x01 0x03))
+    × (make_fault (record base { user = Some (Map no_pairs) }) ≡ Some (because.Missing 0x01 0x03))
+    × (make_fault (record base { parameters = None }) ≡ Some (because.Missing 0x01 0x04))
+    × (make_fault (record base { parameters = Some (only (one (codes "type") public_key)) }) ≡ Some
+    (because.EntryNotWhole 0x01 0x04))
+    × (make_fault (record base { exclude_list = Some (only (one (codes "id") (bytes 1))) }) ≡ Some
+    (because.EntryNotWhole 0x01 0x05))
+unfolding value_at all_entries some_entry all_pairs
+make_faults_missing = (refl, refl, refl, refl, refl, refl, refl, refl, refl, refl)
+
+-- the other checks, each alone
+make_faults_refused :
+    (make_fault (record base { client_data_hash = Some (bytes 31) }) ≡ Some (because.HashLength 31))
+    × (make_fault (record base { client_data_hash = Some (bytes 33) }) ≡ Some (because.HashLength 33))
+    × (make_fault (record base { user = Some (one (codes "id") (bytes 65)) }) ≡ Some (because.UserIdLength 65))
+    × (make_fault (record base { pin_uv_auth_param = Some (bytes 0) }) ≡ Some because.PinUvAuthParam)
+    × (make_fault (record base { parameters = Some empty }) ≡ Some because.NoAlgorithm)
+    × (make_fault (record base { options = Some (one (codes "uv") (flag true)) }) ≡ Some because.UvOption)
+    × (make_fault (record base { options = Some (one (codes "up") (flag false)) }) ≡ Some because.UpOption)
+    × (make_fault (record base { enterprise_attestation = Some (int 1) }) ≡ Some because.EnterpriseAttestation)
+unfolding value_at all_entries some_entry all_pairs
+make_faults_refused = (refl, refl, refl, refl, refl, refl, refl, refl)
+
+-- checks that share a status: the first decides
+make_faults_order :
+    (make_fault (record base { client_data_hash = None; rp = None }) ≡ Some (because.Missing 0x01 0x01))
+    × (make_fault (record base { parameters = None; exclude_list = Some (only (one (codes "id") (bytes 1))) }) ≡ Some
+    (because.Missing 0x01 0x04))
+    × (make_fault (record base { client_data_hash = Some (bytes 1); user = Some (one (codes "id") (bytes 65)) }) ≡ Some
+    (because.HashLength 1))
+    × (make_fault (record base { options = Some (two (codes "up") (flag false) (codes "uv") (flag true)) }) ≡ Some
+    because.UvOption)
+unfolding value_at all_entries some_entry all_pairs
+make_faults_order = (refl, refl, refl, refl)
+
+abbrev assertion_fault : Assertion → Option RequestFault
+assertion_fault a = assertion_fault_in (assertion_tree a)
+
+assertion_faults_refused :
+    (assertion_fault asking ≡ None)
+    × (assertion_fault (record asking { rp_id = Some (bytes 1) }) ≡ Some because.WrongType)
+    × (assertion_fault (record asking { rp_id = None; client_data_hash = None }) ≡ Some (because.Missing 0x02 0x01))
+    × (assertion_fault (record asking { client_data_hash = None }) ≡ Some (because.Missing 0x02 0x02))
+    × (assertion_fault (record asking { allow_list = Some (only (one (codes "type") public_key)) }) ≡ Some
+    (because.EntryNotWhole 0x02 0x03))
+    × (assertion_fault (record asking { client_data_hash = Some (bytes 31) }) ≡ Some (because.HashLength 31))
+    × (assertion_fault (record asking { pin_uv_auth_param = Some (bytes 0) }) ≡ Some because.PinUvAuthParam)
+    × (assertion_fault (record asking { options = Some (one (codes "uv") (flag true)) }) ≡ Some because.UvOption)
+    × (assertion_fault (record asking { options = Some (one (codes "rk") (flag false)) }) ≡ Some because.RkOption)
+unfolding value_at all_entries some_entry all_pairs
+assertion_faults_refused = (refl, refl, refl, refl, refl, refl, refl, refl, refl)

@@ -3,11 +3,11 @@
 use Rattle.std.specs.Prelude.{◌≡◌, ℕ, ◌+◌, ◌-◌, ◌≤◌, min, Bool, true, List, length, Option, Some, None, is_some}
 use Rattle.std.specs.{Prelude.if◌then◌else◌, Borrow.Bor, Iterator.YieldsFirstBy, List.cons_option}
 use Rattle.ctap_cbor.specs.Tree.{Array, Trees, no_trees, tree, depth_all, count}
-use Rattle.ctap_cbor.specs.Grammar.{text, texts, IsLawful, AreLawful}
+use Rattle.ctap_cbor.specs.Grammar.{encode_tree, encode_trees, IsLawful, AreLawful}
 use Rattle.ctap_cbor.specs.Outcome.{Whole, steps, later_in_all}
-use Rattle.ctap_cbor.specs.{Reading.Reading, Reading.rest_of, Reading.add_steps, Telling.canonical_tree, Telling.items_at}
+use Rattle.ctap_cbor.specs.{Reading.Reading, Reading.rest_of, Reading.add_steps, Outcome.canonical_tree, Outcome.items_at}
 use Rattle.ctap_message.specs.Members.{entries_of, has_entries}
-use Rattle.ctap_message.specs.{Descriptors.ids_of, Fields.descriptor_in, Fields.id_of_public_key}
+use Rattle.ctap_message.specs.{Members.ids_of, Fields.descriptor_in, Fields.id_of_public_key}
 
 -- An iterator over a list: a cursor at the next entry, and the number of entries left.
 pub record DescriptorWalk : Type 0 where
@@ -30,11 +30,11 @@ IsAtFirst w ts = (list_of w ≡ ts) × (left_of w ≡ ts)
 -- input isn't checked; 0 for an empty list.
 abbrev pub list_steps : Trees → ℕ
 list_steps no_trees = 0
-list_steps (tree t ts) = steps (text (Array (tree t ts))) (Whole (Array (tree t ts))) - 1
+list_steps (tree t ts) = steps (encode_tree (Array (tree t ts))) (Whole (Array (tree t ts))) - 1
 
 -- The number of steps of skipping entries.
 abbrev pub entry_steps : Trees → ℕ
-entry_steps ts = length (texts ts) + later_in_all ts
+entry_steps ts = length (encode_trees ts) + later_in_all ts
 
 -- The number of steps of the iterator so far, saturating at 2^64-1.
 abbrev pub walked_steps : DescriptorWalk → ℕ
@@ -56,7 +56,7 @@ pub record NextId (old : DescriptorWalk) (id : Option (Bor (List ℕ))) (new : D
 
 -- The cursor has `n` entries left to read: the entries `ts`.
 pub record HasEntriesLeft (r : Reading) (n : ℕ) (ts : Trees) : Type 0 where
-  pub spelled : rest_of r ≡ texts ts
+  pub spelled : rest_of r ≡ encode_trees ts
   pub number : count ts ≡ n
   pub lawful : AreLawful ts
   pub flat : depth_all ts ≤ 3
@@ -79,7 +79,7 @@ pub record IsList (l : List ℕ) (ts : Trees) : Type 0 where
   pub lawful : IsLawful (Array ts)
   pub flat : depth_all ts ≤ 3
   pub given : has_entries ts ≡ true
-  pub spelled : l ≡ text (Array ts)
+  pub spelled : l ≡ encode_tree (Array ts)
 
 -- The invariant of the iterator.
 pub record IsValidWalk (w : DescriptorWalk) (given : Bool) : Type 0 where

@@ -1,10 +1,12 @@
--- Access to the parameters of a request in its CBOR item (CTAP 2.1, section 8): members of maps, entries of arrays, and
--- their required types.
+-- The parameters of a request in its CBOR item (CTAP 2.1, section 8; WebAuthn Level 2, section 5.8).
 use Prim.Native.String.{String}
 use Rattle.std.specs.Prelude.{ℕ, pos, ◌==◌, Bool, true, false, ◌&&◌, ◌||◌, List, [], ◌∷◌, Option, Some, None, is_some}
-use Rattle.std.specs.{Prelude.if◌then◌else◌, Prelude.codes, Option.option_or, Option.option_and_then, Str.bytes_eq}
+use Rattle.std.specs.Prelude.{if◌then◌else◌, codes, ℤ, negsuc}
+use Rattle.std.specs.Option.{option_or, option_and_then}
+use Rattle.std.specs.Str.{bytes_eq}
 use Rattle.ctap_cbor.specs.Tree.{Int, Text, Tree, Plain, Array, Map, Trees, no_trees, tree, Pairs, no_pairs, pair}
 use Rattle.ctap_cbor.specs.Tree.{is_map, is_array, as_bytes, as_text, as_int, as_uint, as_flag}
+use Rattle.std.specs.List.{cons_option}
 
 -- ---- members and entries
 
@@ -96,3 +98,52 @@ has_listed_type (t ∷ ts) k v = if is_key t.0 k then t.1 v else has_listed_type
 -- Whether the tree is a map whose members have the listed types.
 abbrev pub map_of : List (MemberKey × (Tree → Bool)) → Tree → Bool
 map_of types t = is_map t && all_pairs (has_listed_type types) (pairs_of (Some t))
+
+-- Parameters of requests: credential descriptors (WebAuthn Level 2, section 5.8.3), credential parameters (WebAuthn
+-- Level 2, section 5.3) and options.
+
+-- The required types of the members of a descriptor.
+abbrev pub descriptor_types : List (MemberKey × (Tree → Bool))
+descriptor_types = (Name "id", is_bytes) ∷ (Name "type", is_text) ∷ (Name "transports", array_of is_text) ∷ []
+
+-- The types of a credential parameter's members.
+abbrev pub parameter_types : List (MemberKey × (Tree → Bool))
+parameter_types = (Name "alg", is_int) ∷ (Name "type", is_text) ∷ []
+
+-- The required types of the options, by name.
+abbrev pub option_types : List (MemberKey × (Tree → Bool))
+option_types = (Name "rk", is_flag) ∷ (Name "up", is_flag) ∷ (Name "uv", is_flag) ∷ []
+
+-- Whether the credential type is `public-key`.
+abbrev pub is_public_key : Option (List ℕ) → Bool
+is_public_key = is_some_and (λ s. bytes_eq s (codes "public-key"))
+
+-- The type in a descriptor or credential parameter.
+abbrev pub type_of : Tree → Option (List ℕ)
+type_of t = member_as as_text (Name "type") (Some t)
+
+-- Whether the descriptor has an ID and a type.
+abbrev pub has_id_and_type : Tree → Bool
+has_id_and_type t = is_some (member_as as_bytes (Name "id") (Some t)) && is_some (type_of t)
+
+-- The ID in a descriptor of type `public-key`.
+abbrev pub id_of : Tree → Option (List ℕ)
+id_of t = if is_public_key (type_of t) then member_as as_bytes (Name "id") (Some t) else None
+
+-- The IDs of all descriptors of type `public-key` in a list, in order.
+abbrev pub ids_of : Trees → List (List ℕ)
+ids_of no_trees = []
+ids_of (tree t ts) = cons_option (id_of t) (ids_of ts)
+
+-- Whether the credential parameter has an algorithm and a type.
+abbrev pub has_alg_and_type : Tree → Bool
+has_alg_and_type t = is_some (member_as as_int (Name "alg") (Some t)) && is_some (type_of t)
+
+-- Whether the algorithm is ES256, whose identifier is -7.
+abbrev pub is_es256 : Option ℤ → Bool
+is_es256 (Some (negsuc n)) = n == 6
+is_es256 _ = false
+
+-- Whether the credential parameter is for ES256 public keys.
+abbrev pub is_es256_parameter : Tree → Bool
+is_es256_parameter t = is_es256 (member_as as_int (Name "alg") (Some t)) && is_public_key (type_of t)

@@ -4,15 +4,15 @@ use Rattle.std.specs.Prelude.{ℕ, ◌==◌, ◌||◌, nat_le, Bool, true, false
 use Rattle.std.specs.Prelude.{is_none, unwrap_or, Result, Ok, Err, if◌then◌else◌}
 use Rattle.ctap_cbor.specs.declared.fault.Kind.{Kind}
 use Rattle.ctap_cbor.specs.Outcome.{Outcome, result_of}
-use Rattle.ctap_cbor.specs.Telling.{outcome_of, whole_tree}
+use Rattle.ctap_cbor.specs.Outcome.{outcome_of, whole_tree}
 use Rattle.ctap_cbor.specs.Tree.{Tree}
 use Rattle.ctap_message.specs.declared.fault.RequestFault.{RequestFault}
 use Rattle.ctap_message.specs.declared.fault.RequestFault.TheVariants as because
-use Rattle.ctap_message.specs.Asked.{RequestParameters}
+use Rattle.ctap_message.specs.Requests.{ParsedRequest}
 use Rattle.ctap_message.specs.Members.{is_some_and, map_of}
-use Rattle.ctap_message.specs.MakeCredential.{make_types}
-use Rattle.ctap_message.specs.GetAssertion.{assertion_types}
-use Rattle.ctap_message.specs.Judged.{MakeParameters, make_parameters, AssertionParameters, assertion_parameters}
+use Rattle.ctap_message.specs.Requests.{make_types}
+use Rattle.ctap_message.specs.Requests.{assertion_types}
+use Rattle.ctap_message.specs.Fields.{MakeParameters, make_parameters, AssertionParameters, assertion_parameters}
 
 -- The status code of the error response (section 8.2).
 abbrev pub status_of : RequestFault → ℕ
@@ -37,8 +37,8 @@ abbrev pub or_first : List (Bool × RequestFault) → Option RequestFault → Op
 or_first [] other = other
 or_first (check ∷ checks) other = if check.0 then or_first checks other else Some check.1
 
--- The error of the first check of authenticatorMakeCredential that fails, once clientDataHash, rp and user are known to
--- be present.
+-- The error of the first check of authenticatorMakeCredential that fails, once clientDataHash, rp.id and user.id are
+-- known to be present.
 abbrev pub fault_of_make : MakeParameters → (hash user_id : List ℕ) → Option RequestFault
 fault_of_make m hash user_id =
     or_first
@@ -115,6 +115,6 @@ fault_in (byte ∷ parameters) =
     else Some (because.NoSuchCommand byte)
 
 -- The status code of a rejected message.
-abbrev pub rejection_status : Result RequestParameters ℕ → Option ℕ
+abbrev pub rejection_status : Result ParsedRequest ℕ → Option ℕ
 rejection_status (Ok asked) = None
 rejection_status (Err status) = Some status

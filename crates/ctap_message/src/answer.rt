@@ -3,10 +3,10 @@
 
 ghost use Rattle.std.specs.Prelude.{◌≡◌, ◌+◌, ◌<◌, ◌≤◌, ◌++◌, ◌∷◌, [], length};
 ghost use Rattle.std.specs.Option.{ForSome, option_copied};
-ghost use Rattle.ctap_cbor.specs.Head.{head};
-ghost use Rattle.ctap_cbor.specs.Grammar.{text, pair_texts};
+ghost use Rattle.ctap_cbor.specs.Grammar.{head};
+ghost use Rattle.ctap_cbor.specs.Grammar.{encode_tree, encode_pairs};
 ghost use Rattle.ctap_cbor.specs.Tree.{count_pairs, no_pairs};
-ghost use Rattle.ctap_message.specs.Answers as spec;
+ghost use Rattle.ctap_message.specs.Responses as spec;
 
 use crate::status::Status;
 use arrayvec::ArrayVec;
@@ -27,7 +27,7 @@ pub fn write_status(status: Status, answer: &mut Answer)
 /// `{1: ["FIDO_2_0"], 3: aaguid, 4: {"rk": true, "up": true, "plat": false}, 5: 7609, 9: ["usb"], 10: [{"alg": -7,
 /// "type": "public-key"}]}` in canonical CBOR. Not inlined, so that its stack frame isn't part of its callers' frames.
 #[inline(never)]
-#[tactic(auto, unfolding(ctap_cbor::specs::Head::head, crate::specs::Answers::info_tree, crate::specs::Answers::info_answer))]
+#[tactic(auto, unfolding(ctap_cbor::specs::Grammar::head, crate::specs::Responses::info_tree, crate::specs::Responses::info_answer))]
 pub fn write_info(aaguid: &[u8; 16], answer: &mut Answer)
     ensures { answer.new.items ≡ spec.info_answer aaguid.now }
 {
@@ -96,7 +96,7 @@ pub fn write_assertion(
 }
 
 /// Returns the head of a map with this number of members.
-#[tactic(auto, unfolding(ctap_cbor::specs::Head::head))]
+#[tactic(auto, unfolding(ctap_cbor::specs::Grammar::head))]
 fn map_head(user: Option<&[u8]>, number: Option<u16>) -> u8
     ensures { head 5 (count_pairs (spec.with_user (option_copied user.entry) (spec.with_number number)) + 1 + 1 + 1)
         ≡ result ∷ [] }
@@ -113,7 +113,7 @@ fn put_user(answer: &mut Answer, user: Option<&[u8]>)
     requires capacity { length answer.old.items ≤ 191 }
     requires user { ForSome user (λ u. length u.now ≤ 64) }
     ensures appends { answer.new.items ≡ answer.old.items
-        ++ pair_texts (spec.with_user (option_copied user.entry) no_pairs) }
+        ++ encode_pairs (spec.with_user (option_copied user.entry) no_pairs) }
     ensures few { length answer.new.items ≤ length answer.old.items + 71 }
 {
     if let Some(user) = user {
@@ -123,9 +123,10 @@ fn put_user(answer: &mut Answer, user: Option<&[u8]>)
 }
 
 /// Writes the member with the number of credentials, if there is a number.
+#[tactic(auto, using(std::proofs::Common::append_assoc), unfolding(ctap_cbor::specs::Grammar::head))]
 fn put_number(answer: &mut Answer, number: Option<u16>)
     requires { length answer.old.items ≤ 258 }
-    ensures { answer.new.items ≡ answer.old.items ++ pair_texts (spec.with_number number) }
+    ensures { answer.new.items ≡ answer.old.items ++ encode_pairs (spec.with_number number) }
 {
     if let Some(number) = number {
         let mut head = [0; 9];
@@ -139,7 +140,7 @@ fn put_number(answer: &mut Answer, number: Option<u16>)
 fn put_bytes(answer: &mut Answer, bytes: &[u8])
     requires short { length bytes.now < 256 }
     requires capacity { length answer.old.items + 2 + length bytes.now ≤ 262 }
-    ensures appends { answer.new.items ≡ answer.old.items ++ text (spec.byte_string bytes.now) }
+    ensures appends { answer.new.items ≡ answer.old.items ++ encode_tree (spec.byte_string bytes.now) }
     ensures few { length answer.new.items ≤ length answer.old.items + 2 + length bytes.now }
 {
     let mut head = [0; 9];

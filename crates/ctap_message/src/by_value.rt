@@ -3,8 +3,8 @@
 
 ghost use Rattle.std.specs.Prelude.{◌≡◌, ◌≤◌, length, min};
 ghost use Rattle.std.specs.Option.{ForSome, option_copied};
-ghost use Rattle.ctap_message.specs.Answers as spec;
-ghost use Rattle.ctap_message.specs.ByValue.{valued_result, IsAtStart, HasChecked};
+ghost use Rattle.ctap_message.specs.Responses as spec;
+ghost use Rattle.ctap_message.specs.Views.{valued_result, IsAtStart, HasChecked};
 ghost use Rattle.ctap_message.specs.Requests.{read_of, steps_of, MAX_STEPS, MAX_REQUEST_LEN};
 
 use crate::answer::{self, Answer};

@@ -1,7 +1,7 @@
 //! The supported commands.
 
 ghost use Rattle.std.specs.Prelude.{◌≡◌};
-ghost use Rattle.ctap_message.specs.Commands.{named_command};
+ghost use Rattle.ctap_message.specs.Requests.{named_command};
 
 /// A supported command. The first byte of a message identifies its command (CTAP 2.1, section 8.1, "Commands").
 #[derive(Clone, Copy, Debug, PartialEq, Eq)]

@@ -5,8 +5,8 @@ ghost use Rattle.ctap_cbor.specs.Views.{to_part, head_tree};
 ghost use Rattle.ctap_cbor.specs.Reading.{Fails};
 ghost use Rattle.std.specs.Option.{option_copied};
 ghost use Rattle.ctap_message.specs.Members.{is_text, has_listed_type, array_of, map_of, all_entries};
-ghost use Rattle.ctap_message.specs.Walks.{Reads, typed, HasPairs, HasEntries};
-ghost use Rattle.ctap_message.specs.Descriptors.{descriptor_types};
+ghost use Rattle.ctap_message.specs.Collected.{Reads, typed, HasPairs, HasEntries};
+ghost use Rattle.ctap_message.specs.Members.{descriptor_types};
 ghost use Rattle.ctap_message.specs.Fields.{descriptor_in, id_of_public_key, is_complete_descriptor};
 ghost use Rattle.ctap_message.specs.Collected.{to_descriptor, descriptor_next, IsPlainName, listing_in, to_list_summary, list_in, to_descriptor_list};
 

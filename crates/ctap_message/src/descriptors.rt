@@ -5,7 +5,7 @@ ghost use Rattle.std.specs.Option.{option_copied};
 ghost use Rattle.std.specs.Iterator.{at_most};
 ghost use Rattle.ctap_cbor.specs.Tree.{Trees, no_trees};
 ghost use Rattle.ctap_message.specs.Members.{has_entries};
-ghost use Rattle.ctap_message.specs.Descriptors.{ids_of};
+ghost use Rattle.ctap_message.specs.Members.{ids_of};
 ghost use Rattle.ctap_message.specs.DescriptorWalk.{DescriptorWalk, list_of, left_of, IsAtFirst, walked_steps, NextId, HasEntriesLeft, YieldsId, IsList};
 
 use crate::descriptor::read_descriptor;

@@ -3,9 +3,9 @@
 ghost use Rattle.std.specs.Prelude.{◌⊎◌, MatchResult};
 ghost use Rattle.ctap_cbor.specs.Reading.{Reading, PassesOne, Fails, HasNoByteLeft, HasTrailingBytes};
 ghost use Rattle.ctap_message.specs.Members.{map_of};
-ghost use Rattle.ctap_message.specs.Walks.{Reads, typed, HasPairs};
-ghost use Rattle.ctap_message.specs.GetAssertion.{assertion_types};
-ghost use Rattle.ctap_message.specs.CollectedRequests.{assertion_in, to_assertion_parameters};
+ghost use Rattle.ctap_message.specs.Collected.{Reads, typed, HasPairs};
+ghost use Rattle.ctap_message.specs.Requests.{assertion_types};
+ghost use Rattle.ctap_message.specs.Collected.{assertion_in, to_assertion_parameters};
 
 use crate::descriptor::{DescriptorList, read_list};
 use crate::descriptors::Descriptors;

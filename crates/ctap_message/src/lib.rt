@@ -16,16 +16,17 @@
 //! ```
 //!
 //! - [`read_request`] returns the request in a message, or the status of the first check that it fails, and the number
-//! of parsing steps. - [`Descriptors`] iterates over a request's list of credentials, in place. - [`write_status`],
-//! [`write_info`], [`write_created`] and [`write_assertion`] write responses: a status alone, or status 0x00 and a map
-//! in canonical CBOR. - [`by_value`] has the same calls with their results by value. - [`laws`] states properties of
-//! the definitions in `specs/`.
+//!   of parsing steps.
+//! - [`Descriptors`] iterates over a request's list of credentials, in place.
+//! - [`write_status`], [`write_info`], [`write_created`] and [`write_assertion`] write responses: a status alone, or
+//!   status 0x00 and a map in canonical CBOR.
+//! - [`by_value`] has the same calls with their results by value.
+//! - [`laws`] states properties of the definitions in `specs/`.
 //!
 //! Supported are authenticatorMakeCredential (0x01), GetAssertion (0x02), GetInfo (0x04), Reset (0x07),
 //! GetNextAssertion (0x08) and Selection (0x0b). Nothing here allocates.
 //!
-//! Requests are specified in `specs/Requests.antt`, `specs/MakeCredential.antt` and `specs/GetAssertion.antt`,
-//! responses in `specs/Answers.antt`.
+//! Requests are specified in `specs/Requests.antt`, and responses in `specs/Responses.antt`.
 #![tactic(auto)]
 
 mod answer;

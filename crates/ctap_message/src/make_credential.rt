@@ -3,9 +3,9 @@
 ghost use Rattle.std.specs.Prelude.{◌⊎◌, MatchResult};
 ghost use Rattle.ctap_cbor.specs.Reading.{Reading, PassesOne, Fails, HasNoByteLeft, HasTrailingBytes};
 ghost use Rattle.ctap_message.specs.Members.{map_of};
-ghost use Rattle.ctap_message.specs.Walks.{Reads, typed, HasPairs};
-ghost use Rattle.ctap_message.specs.MakeCredential.{make_types};
-ghost use Rattle.ctap_message.specs.CollectedRequests.{make_in, to_make_parameters};
+ghost use Rattle.ctap_message.specs.Collected.{Reads, typed, HasPairs};
+ghost use Rattle.ctap_message.specs.Requests.{make_types};
+ghost use Rattle.ctap_message.specs.Collected.{make_in, to_make_parameters};
 
 use crate::descriptor::{DescriptorList, read_list};
 use crate::descriptors::Descriptors;

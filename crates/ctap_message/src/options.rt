@@ -1,7 +1,7 @@
 //! The parameter `options`: whether a credential is discoverable (rk), user presence (up), and user verification (uv).
 
-ghost use Rattle.ctap_message.specs.Walks.{HasPairs};
-ghost use Rattle.ctap_message.specs.Descriptors.{option_types};
+ghost use Rattle.ctap_message.specs.Collected.{HasPairs};
+ghost use Rattle.ctap_message.specs.Members.{option_types};
 ghost use Rattle.ctap_message.specs.Fields.{options_in};
 ghost use Rattle.ctap_message.specs.Collected.{to_options};
 

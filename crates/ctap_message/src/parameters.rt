@@ -1,8 +1,8 @@
 //! The parameter pubKeyCredParams: the algorithms that a relying party accepts (WebAuthn Level 2, section 5.3).
 
 ghost use Rattle.ctap_message.specs.Members.{map_of};
-ghost use Rattle.ctap_message.specs.Walks.{HasPairs, HasEntries};
-ghost use Rattle.ctap_message.specs.Descriptors.{parameter_types};
+ghost use Rattle.ctap_message.specs.Collected.{HasPairs, HasEntries};
+ghost use Rattle.ctap_message.specs.Members.{parameter_types};
 ghost use Rattle.ctap_message.specs.Fields.{parameter_in, parameters_in};
 ghost use Rattle.ctap_message.specs.Collected.{to_parameter, to_parameters};
 

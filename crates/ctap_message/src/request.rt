@@ -1,12 +1,12 @@
 //! Parsed requests.
 
 ghost use Rattle.std.specs.Prelude.{◌≡◌, ◌≤◌, length, min, option_map};
-ghost use Rattle.ctap_cbor.specs.Telling.{canonical_tree, outcome_of};
-ghost use Rattle.ctap_message.specs.MakeCredential.{make_request};
-ghost use Rattle.ctap_message.specs.GetAssertion.{assertion_request};
+ghost use Rattle.ctap_cbor.specs.Outcome.{canonical_tree, outcome_of};
+ghost use Rattle.ctap_message.specs.Requests.{make_request};
+ghost use Rattle.ctap_message.specs.Requests.{assertion_request};
 ghost use Rattle.ctap_message.specs.Requests.{read_of, steps_of, without_parameters as alone_of, reading_steps, MAX_STEPS, MAX_REQUEST_LEN};
 ghost use Rattle.ctap_message.specs.RequestFaults.{assertion_fault_in, make_fault_in, fault_in, fault_of, rejection_status, status_of, trailing_fault};
-ghost use Rattle.ctap_message.specs.Shown.{request_result, to_request, parsed_result, fault_of_result, HasFreshList, HasCheckedLengths, IsFresh, HasLengths};
+ghost use Rattle.ctap_message.specs.Views.{request_result, to_request, parsed_result, fault_of_result, HasFreshList, HasCheckedLengths, IsFresh, HasLengths};
 
 use crate::command::Command;
 use crate::descriptors::Descriptors;

@@ -1,7 +1,7 @@
 //! The parameter `rp`: the relying party (WebAuthn Level 2, section 5.4.2).
 
-ghost use Rattle.ctap_message.specs.Walks.{HasPairs};
-ghost use Rattle.ctap_message.specs.MakeCredential.{rp_types};
+ghost use Rattle.ctap_message.specs.Collected.{HasPairs};
+ghost use Rattle.ctap_message.specs.Requests.{rp_types};
 ghost use Rattle.ctap_message.specs.Fields.{rp_in};
 ghost use Rattle.ctap_message.specs.Collected.{to_rp};
 

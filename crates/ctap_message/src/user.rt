@@ -1,7 +1,7 @@
 //! The parameter `user`: the user account (WebAuthn Level 2, section 5.4.3).
 
-ghost use Rattle.ctap_message.specs.Walks.{HasPairs};
-ghost use Rattle.ctap_message.specs.MakeCredential.{user_types};
+ghost use Rattle.ctap_message.specs.Collected.{HasPairs};
+ghost use Rattle.ctap_message.specs.Requests.{user_types};
 ghost use Rattle.ctap_message.specs.Fields.{user_in};
 ghost use Rattle.ctap_message.specs.Collected.{to_user};
 

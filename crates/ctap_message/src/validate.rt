@@ -1,12 +1,12 @@
 //! The checks of the parameters of a request, in order.
 
 ghost use Rattle.std.specs.Prelude.{◌≡◌, true, Err};
-ghost use Rattle.ctap_message.specs.Judged.{validated_make};
-ghost use Rattle.ctap_message.specs.Judged.{validated_assertion};
+ghost use Rattle.ctap_message.specs.Fields.{validated_make};
+ghost use Rattle.ctap_message.specs.Fields.{validated_assertion};
 ghost use Rattle.ctap_message.specs.DescriptorWalk.{list_of, left_of};
-ghost use Rattle.ctap_message.specs.CollectedRequests.{to_make_parameters, to_assertion_parameters};
+ghost use Rattle.ctap_message.specs.Collected.{to_make_parameters, to_assertion_parameters};
 ghost use Rattle.ctap_message.specs.RequestFaults.{make_fault, assertion_fault, fault_of_make};
-ghost use Rattle.ctap_message.specs.Shown.{parsed_result, fault_of_result, IsFresh, HasLengths};
+ghost use Rattle.ctap_message.specs.Views.{parsed_result, fault_of_result, IsFresh, HasLengths};
 
 use crate::fault::RequestFault;
 use crate::get_assertion::Assert;

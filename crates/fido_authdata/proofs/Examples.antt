@@ -1,6 +1,6 @@
 -- The definitions at a worked example: registration and sign-in at `example.com`, byte for byte.
 use Rattle.std.proofs.Common.{◌≡◌, ℕ, List, [], ◌∷◌, ◌++◌, length, replicate, true, false, refl}
-use Rattle.fido_authdata.specs.{CoseKey.cose_key_bytes, AuthData.assertion_bytes, AuthData.created_bytes}
+use Rattle.fido_authdata.specs.{AuthData.cose_key_bytes, AuthData.assertion_bytes, AuthData.created_bytes}
 
 -- the SHA-256 hash of `example.com`
 rp_hash : List ℕ

@@ -1,8 +1,18 @@
--- Authenticator data (WebAuthn Level 2, section 6.1).
+-- Authenticator data, and the public key in it (WebAuthn Level 2, section 6.1; RFC 8152).
 use Rattle.std.specs.Prelude.{ℕ, List, [], ◌∷◌, ◌++◌, length, Bool, true, false, bit_or, if◌then◌else◌, Option, Some}
 use Rattle.std.specs.Prelude.{None, is_some}
 use Rattle.byteorder.specs.Endian.{big_bytes}
-use Rattle.fido_authdata.specs.{CoseKey.cose_key_bytes, declared.auth_data.AttestedCredential.AttestedCredential}
+use Rattle.fido_authdata.specs.declared.auth_data.AttestedCredential.{AttestedCredential}
+
+-- ---- the public key of an ES256 credential as a COSE key (RFC 8152, sections 7.1, 8.1 and 13.1.1)
+
+-- The COSE key {1: 2, 3: -7, -1: 1, -2: x, -3: y} (CTAP 2.1, section 8): kty EC2, alg ES256, crv P-256, x, y.
+abbrev pub cose_key_bytes : (x y : List ℕ) → List ℕ
+cose_key_bytes x y =
+    0xA5 ∷ [] ++ 0x01 ∷ 0x02 ∷ [] ++ 0x03 ∷ 0x26 ∷ [] ++ 0x20 ∷ 0x01 ∷ [] ++ 0x21 ∷ 0x58 ∷ 0x20 ∷ [] ++ x
+    ++ 0x22 ∷ 0x58 ∷ 0x20 ∷ [] ++ y
+
+-- ---- authenticator data (WebAuthn Level 2, section 6.1)
 
 -- The flags: bit 0 is UP (user present), bit 6 is AT (attested credential data included).
 abbrev pub flags_byte : (user_present attested : Bool) → ℕ

@@ -1,2 +1,1 @@
 pub mod AuthData
-pub mod CoseKey

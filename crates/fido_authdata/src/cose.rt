@@ -1,7 +1,7 @@
 //! The COSE key of a credential.
 
 ghost use Rattle.std.specs.Prelude.{◌≡◌};
-ghost use Rattle.fido_authdata.specs.CoseKey.{cose_key_bytes};
+ghost use Rattle.fido_authdata.specs.AuthData.{cose_key_bytes};
 
 use arrayvec::ArrayVec;
 

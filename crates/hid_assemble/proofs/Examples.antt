@@ -1,6 +1,6 @@
 -- The reply table at worked packets: each row, and which of two rows that apply comes first.
 use Rattle.std.proofs.Common.{◌≡◌, ℕ, Bool, true, false, [], Option, Some, None, refl}
-use Rattle.hid_packet.specs.Commands.{PING, INIT, CBOR, CANCEL, BROADCAST}
+use Rattle.hid_packet.specs.Packet.{PING, INIT, CBOR, CANCEL, BROADCAST}
 use Rattle.hid_packet.specs.Packet.{Fields, initialization, continuation}
 use Rattle.hid_assemble.specs.Table.{Open, PacketClass, Begins, Continues, MAX_CHANNEL, init_packet_row, is_noise}
 use Rattle.hid_assemble.specs.Table.{cont_packet_row, packet_class}

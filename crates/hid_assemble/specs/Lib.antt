@@ -1,6 +1,4 @@
 pub mod Table
+pub mod Refusals
 pub mod Assembly
 pub mod Verdicts
-pub mod Refusals
-pub mod Kept
-pub mod Receiving

@@ -3,14 +3,14 @@
 -- message, and the channel of the pending request.
 use Rattle.std.specs.Prelude.{ℕ, ◌+◌, Bool, true, false, not, ◌&&◌, ◌||◌, ◌==◌, nat_le, nat_lt, List, [], ◌∷◌, Option}
 use Rattle.std.specs.Prelude.{Some, None, option_map, if◌then◌else◌}
-use Rattle.hid_packet.specs.Commands.{PING, INIT, CBOR, CANCEL, BROADCAST}
+use Rattle.hid_packet.specs.Packet.{PING, INIT, CBOR, CANCEL, BROADCAST}
 use Rattle.hid_packet.specs.Packet.{Fields, initialization, continuation}
 use Rattle.hid_assemble.specs.declared.table.ReplyRow.{ReplyRow}
 use Rattle.hid_assemble.specs.declared.table.ReplyRow.TheVariants.{CancelsWork, CancelsNothing, NoSuchChannel}
 use Rattle.hid_assemble.specs.declared.table.ReplyRow.TheVariants.{InitLength, InitFull, InitNew, InitAgain}
 use Rattle.hid_assemble.specs.declared.table.ReplyRow.TheVariants.{BusyElsewhere, BusyHere, BrokenOff, NoSuchCommand}
 use Rattle.hid_assemble.specs.declared.table.ReplyRow.TheVariants.{BadLength, Short, Long}
-use Rattle.hid_packet.specs.Limits.{data_capacity, INIT_PACKET_DATA, MAX_MESSAGE_LEN}
+use Rattle.hid_packet.specs.Packet.{data_capacity, INIT_PACKET_DATA, MAX_MESSAGE_LEN}
 
 -- An incomplete message: the fields of its initialization packet, its data so far, the number of its continuation
 -- packets, and the time of the last packet.
@@ -101,9 +101,10 @@ packet_class given current work (initialization cid cmd len part) =
     Begins (init_packet_row given (option_map (λ m. m.cid) current) work cid cmd len)
 packet_class given current work (continuation cid number part) = Continues (cont_packet_row current cid number)
 
--- Whether a packet changes nothing: a CANCEL without a pending request; an initialization packet on a channel that
--- isn't allocated, except INIT on the broadcast channel; an initialization packet other than INIT while another channel
--- is busy or a request is pending on its channel; or a continuation packet outside any transaction.
+-- Whether a packet is noise, which changes nothing: a CANCEL without a pending request on its channel; an
+-- initialization packet on a channel that isn't allocated, except INIT on the broadcast channel; an initialization
+-- packet other than INIT while another channel is busy or a request is pending on its channel; or a continuation packet
+-- without an incomplete message on its channel.
 abbrev pub is_noise : PacketClass → Bool
 is_noise (Begins CancelsNothing) = true
 is_noise (Begins NoSuchChannel) = true

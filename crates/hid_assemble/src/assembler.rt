@@ -1,4 +1,4 @@
-#![tactic(auto, unfolding(crate::specs::Table::packet_class, crate::specs::Table::cont_packet_row, crate::specs::Assembly::accepted, crate::specs::Assembly::is_overdue, crate::specs::Assembly::open_after, crate::specs::Assembly::message_after, crate::specs::Verdicts::verdict, crate::specs::Verdicts::class_verdict, crate::specs::Kept::assembly))]
+#![tactic(auto, unfolding(crate::specs::Table::packet_class, crate::specs::Table::cont_packet_row, crate::specs::Assembly::accepted, crate::specs::Assembly::is_overdue, crate::specs::Assembly::open_after, crate::specs::Assembly::message_after, crate::specs::Verdicts::verdict, crate::specs::Verdicts::class_verdict, crate::specs::Assembly::assembly))]
 
 ghost use Rattle.std.specs.Prelude.{◌≡◌, ℕ, ◌+◌, ◌*◌, ◌≤◌, ◌<◌, ◌++◌, [], length, take, drop, Option, None, Some, option_map, if◌then◌else◌};
 ghost use Rattle.hid_packet.specs.Packet.{fields, initialization, continuation};
@@ -6,7 +6,7 @@ ghost use Rattle.hid_assemble.specs.Assembly.{IsValidAssembly, is_overdue, still
 ghost use Rattle.hid_assemble.specs.Table.{MAX_CHANNEL, is_noise, is_busy_here, packet_class};
 ghost use Rattle.hid_assemble.specs.Refusals.{expected_sequence_of, last_packet_time, busy_channel};
 ghost use Rattle.hid_assemble.specs.Verdicts.{verdict};
-ghost use Rattle.hid_packet.specs.Limits.{CONT_PACKET_DATA, INIT_PACKET_DATA, MAX_STORED_LEN, MAX_MESSAGE_LEN};
+ghost use Rattle.hid_packet.specs.Packet.{CONT_PACKET_DATA, INIT_PACKET_DATA, MAX_STORED_LEN, MAX_MESSAGE_LEN};
 
 use crate::refusal::Refusal;
 use crate::table::{ReplyRow, init_packet_row};
@@ -95,9 +95,8 @@ fn busy_refusal(current: Option<u32>, working: Option<u32>, cid: u32) -> Refusal
     Refusal::BusyElsewhere { channel }
 }
 
-/// The state of the transport: the number of allocated channels, and the incomplete message, if any. For each packet,
-/// [`pass`](Self::pass) first drops the incomplete message if it timed out. Then [`accept`](Self::accept) handles the
-/// packet.
+/// The state of the transport: the number of allocated channels, and the open message, if any. For each packet, call
+/// [`pass`](Self::pass), which drops the open message if it timed out, and then [`accept`](Self::accept).
 #[derive(Drop)]
 pub struct Assembler {
     given: u32,
@@ -109,7 +108,7 @@ pub struct Assembler {
 // complete message.
 impl Model for Assembler {
     ghost use Rattle.hid_assemble.specs.Assembly.{Assembly};
-    ghost use Rattle.hid_assemble.specs.Kept.{assembly, IsValidState};
+    ghost use Rattle.hid_assemble.specs.Assembly.{assembly, IsValidState};
 
     ghost Value = { Assembly };
 

@@ -42,8 +42,8 @@ pub enum ReplyRow {
 }
 
 impl ReplyRow {
-    /// Returns whether packets of this row are noise (ignored input). Noise leaves the state unchanged, but not every
-    /// packet that leaves the state unchanged is noise.
+    /// Returns whether packets of this row are noise: input that is ignored or refused with an ERROR response. Noise
+    /// leaves the state unchanged, but not every packet that leaves the state unchanged is noise.
     pub(crate) fn is_noise(self) -> bool
         ensures { result ≡ spec.is_noise (Begins self) }
     {

@@ -1,10 +1,3 @@
-pub mod Writing
-pub mod Windows
-pub mod Filling
-pub mod Making
 pub mod Queueing
-pub mod Carrying
-pub mod Bytes
-pub mod Whole
-pub mod Only
+pub mod MessagePackets
 mod Examples

@@ -1,10 +1,76 @@
--- The fields of a packet of 64 bytes (CTAP 2.1, section 11.2.4, "Message and packet structure"). A packet is the list
--- of its bytes.
-use Rattle.std.specs.Prelude.{◌≡◌, ℕ, ◌-◌, Bool, ◌&&◌, ◌==◌, nat_le, List, length, take, drop, slice_index}
+-- The fields of a packet, and the commands and limits of CTAPHID (CTAP 2.1, sections 11.2.4 and 11.2.9).
+use Rattle.std.specs.Prelude.{ℕ, ◌+◌, ◌*◌, ◌≡◌, ◌-◌, Bool, ◌&&◌, ◌==◌, nat_le, List, length, take, drop, slice_index}
 use Rattle.std.specs.Prelude.{if◌then◌else◌}
 use Rattle.byteorder.specs.Endian.{big_number}
-use Rattle.hid_packet.specs.declared.packet.View.{View, TheVariants.Start, TheVariants.More}
-use Rattle.hid_packet.specs.Limits.{CONT_PACKET_DATA, INIT_PACKET_DATA}
+use Rattle.hid_packet.specs.declared.packet.View.{View}
+use Rattle.hid_packet.specs.declared.packet.View.TheVariants.{Start, More}
+
+-- ---- the commands and the broadcast channel of CTAPHID (CTAP 2.1, sections 11.2.4 and 11.2.9)
+
+abbrev pub PING : ℕ
+PING = 0x01
+
+abbrev pub INIT : ℕ
+INIT = 0x06
+
+abbrev pub CBOR : ℕ
+CBOR = 0x10
+
+abbrev pub CANCEL : ℕ
+CANCEL = 0x11
+
+abbrev pub KEEPALIVE : ℕ
+KEEPALIVE = 0x3b
+
+abbrev pub ERROR : ℕ
+ERROR = 0x3f
+
+-- The broadcast channel, on which a host requests a channel ID.
+abbrev pub BROADCAST : ℕ
+BROADCAST = 0xffff_ffff
+
+-- The limits of CTAPHID in the standard, and limits derived from them. The code has constants of its own; contracts
+-- state that their values are the same.
+
+-- The data bytes in an initialization packet: 64 minus channel, command and length (CTAP 2.1, section 11.2.4).
+abbrev pub INIT_PACKET_DATA : ℕ
+INIT_PACKET_DATA = 57
+
+-- The data bytes in a continuation packet: 64 minus channel and sequence number (CTAP 2.1, section 11.2.4).
+abbrev pub CONT_PACKET_DATA : ℕ
+CONT_PACKET_DATA = 59
+
+-- The maximum message length: an initialization packet and 128 continuation packets (CTAP 2.1, section 11.2.4).
+abbrev pub MAX_MESSAGE_LEN : ℕ
+MAX_MESSAGE_LEN = 7609
+
+-- The maximum number of packets sent for one input: one for a time-out or KEEPALIVE, and the 129 packets of the longest
+-- message.
+abbrev pub OUTBOX_CAPACITY : ℕ
+OUTBOX_CAPACITY = 130
+
+-- The capacity of the outbox's ring buffer, in bytes: 64 for each packet.
+abbrev pub RING_SIZE : ℕ
+RING_SIZE = 64 * OUTBOX_CAPACITY
+
+-- The maximum number of data bytes stored for an incomplete message: those of 128 packets.
+abbrev pub MAX_STORED_LEN : ℕ
+MAX_STORED_LEN = 7550
+
+-- The time in milliseconds after which an incomplete message is dropped (CTAP 2.1, section 11.2.5.2).
+abbrev pub MESSAGE_TIMEOUT : ℕ
+MESSAGE_TIMEOUT = 500
+
+-- The time between two KEEPALIVE packets, in milliseconds (CTAP 2.1, section 11.2.9.1.7).
+abbrev pub KEEPALIVE_PERIOD : ℕ
+KEEPALIVE_PERIOD = 100
+
+-- The data bytes in an initialization packet and `count` continuation packets.
+abbrev pub data_capacity : ℕ → ℕ
+data_capacity count = INIT_PACKET_DATA + CONT_PACKET_DATA * count
+
+-- The fields of a packet of 64 bytes (CTAP 2.1, section 11.2.4, "Message and packet structure"). A packet is the list
+-- of its bytes.
 
 -- The channel ID: bytes 0 to 3.
 unfoldable pub channel : List ℕ → ℕ

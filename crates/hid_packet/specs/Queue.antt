@@ -1,10 +1,10 @@
 -- The queued packets of an outbox, computed from its entries and the bytes of its ring buffer.
 use Rattle.std.specs.Prelude.{◌≡◌, ℕ, ◌+◌, ◌*◌, ◌-◌, ◌<◌, ◌≤◌, List, [], ◌∷◌, ◌++◌, length, take, drop, sum_by}
 use Rattle.std.specs.List.{AllByRecursion}
-use Rattle.hid_packet.specs.{Remaining.packets_left, declared.fragments.NextPacket.NextPacket}
+use Rattle.hid_packet.specs.{Message.packets_left, declared.fragments.NextPacket.NextPacket}
 use Rattle.hid_packet.specs.declared.queued.Queued.{Queued, TheVariants.Whole, TheVariants.Part}
 use Rattle.hid_packet.specs.declared.fragments.NextPacket.TheVariants.{Initialization, Continuation}
-use Rattle.hid_packet.specs.Limits.{CONT_PACKET_DATA, MAX_MESSAGE_LEN, OUTBOX_CAPACITY}
+use Rattle.hid_packet.specs.Packet.{CONT_PACKET_DATA, MAX_MESSAGE_LEN, OUTBOX_CAPACITY}
 
 -- `len` items of a ring buffer from index `first` on. After the last index, index 0 follows.
 abbrev pub window : {X : Type 0} → (first len : ℕ) → List X → List X

@@ -1,8 +1,8 @@
 ghost use Rattle.std.specs.Prelude.{◌≡◌, ℕ, ◌+◌, ◌-◌, ◌<◌, ◌≤◌, ◌++◌, ◌∷◌, [], List, length, take, drop};
 ghost use Rattle.byteorder.specs.Endian.{big_bytes};
 ghost use Rattle.hid_packet.specs.Message.{message_packets, initialization_packet, continuation_packet};
-ghost use Rattle.hid_packet.specs.Carries.{IsLeast};
-ghost use Rattle.hid_packet.specs.Limits.{CONT_PACKET_DATA, INIT_PACKET_DATA, MAX_MESSAGE_LEN};
+ghost use Rattle.hid_packet.specs.Message.{IsLeast};
+ghost use Rattle.hid_packet.specs.Packet.{CONT_PACKET_DATA, INIT_PACKET_DATA, MAX_MESSAGE_LEN};
 ghost use Rattle.std.specs.Iterator.{YieldsFirstBy, item_count};
 
 use crate::limits::{CONT_PACKET_DATA, INIT_PACKET_DATA};
@@ -88,7 +88,7 @@ pub struct Fragments<'a> {
 // In contracts, the iterator is the list of the packets that it hasn't returned yet.
 impl<'a> Model for Fragments<'a> {
     ghost use Rattle.std.specs.Prelude.{ℕ, List};
-    ghost use Rattle.hid_packet.specs.Remaining.{packets_left, CanCarry};
+    ghost use Rattle.hid_packet.specs.Message.{packets_left, CanCarry};
 
     ghost Value = { List (List ℕ) };
 

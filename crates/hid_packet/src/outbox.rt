@@ -4,7 +4,7 @@ ghost use Rattle.std.specs.List.{remove};
 ghost use Rattle.arrayvec.specs.ArrayVec.{array_vec_len};
 ghost use Rattle.hid_packet.specs.Message.{message_packets};
 ghost use Rattle.hid_packet.specs.Queue.{queued_packets, AreEntriesOf};
-ghost use Rattle.hid_packet.specs.Limits.{MAX_MESSAGE_LEN, OUTBOX_CAPACITY};
+ghost use Rattle.hid_packet.specs.Packet.{MAX_MESSAGE_LEN, OUTBOX_CAPACITY};
 
 use crate::fragments::{NextPacket, packets_for, write_init_packet};
 use crate::limits::{INIT_PACKET_DATA, OUTBOX_CAPACITY};

@@ -2,8 +2,8 @@
 ghost use Rattle.std.specs.Prelude.{◌≡◌, ◌+◌, ◌<◌, ◌≤◌, ◌++◌, ◌∷◌, [], length, take, drop};
 ghost use Rattle.hid_packet.specs.Message.{continuation_packet, initialization_packet};
 ghost use Rattle.hid_packet.specs.Queue.{HasPacketLeft};
-ghost use Rattle.hid_packet.specs.Remaining.{packets_left, CanCarry};
-ghost use Rattle.hid_packet.specs.Limits.{CONT_PACKET_DATA, INIT_PACKET_DATA};
+ghost use Rattle.hid_packet.specs.Message.{packets_left, CanCarry};
+ghost use Rattle.hid_packet.specs.Packet.{CONT_PACKET_DATA, INIT_PACKET_DATA};
 
 use crate::fragments::{NextPacket, write_cont_packet, write_init_packet};
 use crate::limits::{CONT_PACKET_DATA, INIT_PACKET_DATA};

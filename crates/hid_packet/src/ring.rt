@@ -1,6 +1,6 @@
 //! A ring buffer, used as a queue of bytes.
 ghost use Rattle.std.specs.Prelude.{◌≡◌, ◌+◌, ◌-◌, ◌*◌, ◌%◌, ◌<◌, ◌≤◌, ◌++◌, [], length, min, take, drop};
-ghost use Rattle.hid_packet.specs.Limits.{RING_SIZE};
+ghost use Rattle.hid_packet.specs.Packet.{RING_SIZE};
 
 use crate::limits::OUTBOX_CAPACITY;
 use std::marker::Model;
@@ -20,7 +20,7 @@ pub(crate) struct RingBuffer {
 impl Model for RingBuffer {
     ghost use Rattle.std.specs.Prelude.{◌≡◌, ℕ, ◌<◌, ◌≤◌, List, length};
     ghost use Rattle.hid_packet.specs.Queue.{window};
-    ghost use Rattle.hid_packet.specs.Limits.{RING_SIZE};
+    ghost use Rattle.hid_packet.specs.Packet.{RING_SIZE};
 
     ghost Value = { List ℕ };
 

@@ -1,31 +1,86 @@
--- What follows from the rules of `clap` for the words of the program.
-use Rattle.std.proofs.Common.{◌≡◌, ℕ, Bool, true, false, not, ◌&&◌, List, [], ◌∷◌, ◌++◌, ◌+◌, ◌<◌, ap₂, length, take}
-use Rattle.std.proofs.Common.{get_or, map, Option, Some, None, is_some, codes, option_and_then, option_map, unwrap_or}
-use Rattle.std.proofs.Common.{refl, sym, ◌∙◌, ap, subst, cond, if◌then◌else◌, ◌||◌, ◌≤◌, arith}
-use Rattle.std.specs.{Borrow.Bor, List.fold, List.slice_index_or, Str.bytes_eq}
-use Rattle.std.proofs.lemmas.{Slice.Eq.bytes_eq-Decides, List.map-append, List.take_more, List.Sums.fold-append}
-use Rattle.clap.proofs.{OnLiterals.clap_on_literals, WalkLemmas.first_value-rows, WalkLemmas.raw_values-rows}
-use Rattle.clap.specs.{Built.AddsArg, Built.AddsSubcommand, declared.builder.arg.Arg.Arg, Simple.with_subcommand}
-use Rattle.clap.specs.{Lexer.long_of, Lexer.short_of, Kinds.Kinds, Kinds.or_else, Kinds.check_kinds}
-use Rattle.clap.specs.Walk.{rule_of, Held, Names, Outcome, done, waits, plain, refused, Rule, Step, next, trailing}
-use Rattle.clap.specs.Walk.{subcommand, value, Text, Waiting, idle, option, positional, Walk, after_flag, after_step}
-use Rattle.clap.specs.Walk.{arg_by_index, arg_by_long, bundle, finished, long_met, long_or_other, plain_word, settled}
-use Rattle.clap.specs.Walk.{short_or_plain, subcommand_met, subcommand_or_other, to_positional, walk, walk_from, walked}
-use Rattle.clap.specs.Walk.{word_met, nothing_held, first_of, rows_of}
+-- What follows from the rules of clap for the words of the program.
+use Rattle.std.proofs.Common.{◌≡◌, ◌≢◌, ◌⊎◌, inl, inr, ℕ, List, [], ◌∷◌, Option, Some, None, MatchOption, refl, subst}
+use Rattle.std.proofs.Common.{Bool, true, false, not, ◌&&◌, ◌++◌, ◌+◌, ◌<◌, ap₂, length, take, get_or, map, is_some}
+use Rattle.std.proofs.Common.{codes, option_and_then, option_map, unwrap_or, sym, ◌∙◌, ap, cond, if◌then◌else◌, ◌||◌}
+use Rattle.std.proofs.Common.{◌≤◌, arith}
+use Rattle.clap.specs.Kinds.{IsAmong, Kinds, or_else, check_kinds}
+use Rattle.clap.specs.declared.error.kind.ErrorKind.{ErrorKind}
+use Rattle.clap.specs.declared.error.kind.ErrorKind.TheVariants.{OutOfMemory}
+use Rattle.hidlog.specs.declared.args.Verbosity.{Verbosity}
+use Rattle.hidlog.specs.CommandLine.{Task, argument_errors, parsed_command_line, unless, command, command_for}
+use Rattle.hidlog.specs.CommandLine.{rule_for, command_task, grammar, log_paths_of, play, check, show, task_for}
+use Rattle.hidlog.specs.CommandLine.{to_texts}
+use Rattle.std.specs.Borrow.{Bor}
+use Rattle.std.specs.List.{fold, slice_index_or}
+use Rattle.std.specs.Str.{bytes_eq}
+use Rattle.std.proofs.lemmas.Slice.Eq.{bytes_eq-Decides}
+use Rattle.std.proofs.lemmas.List.{map-append, take_more}
+use Rattle.std.proofs.lemmas.List.Sums.{fold-append}
+use Rattle.clap.proofs.OnLiterals.{clap_on_literals}
+use Rattle.clap.proofs.WalkLemmas.{first_value-rows, raw_values-rows}
+use Rattle.clap.specs.Built.{AddsArg, AddsSubcommand}
+use Rattle.clap.specs.declared.builder.arg.Arg.{Arg}
+use Rattle.clap.specs.Simple.{with_subcommand, new_app, on_top, App, HasMatchesOf, Shape, is_simple, subcommand_of}
+use Rattle.clap.specs.Simple.{argument_words, built, entered, help_shape, names_of, rows_at, shape_of, app_of}
+use Rattle.clap.specs.Simple.{subcommand_rows_of}
+use Rattle.clap.specs.Lexer.{long_of, short_of}
+use Rattle.clap.specs.Walk.{rule_of, Held, Names, Outcome, done as done_of_walk, waits, plain, refused, Rule, Step}
+use Rattle.clap.specs.Walk.{next, trailing, subcommand, value, Text, Waiting, idle, option, positional, Walk}
+use Rattle.clap.specs.Walk.{after_flag, after_step, arg_by_index, arg_by_long, bundle, finished, long_met}
+use Rattle.clap.specs.Walk.{long_or_other, plain_word, settled, short_or_plain, subcommand_met, subcommand_or_other}
+use Rattle.clap.specs.Walk.{to_positional, walk, walk_from, walked, word_met, nothing_held, first_of, rows_of}
 use Rattle.clap.specs.Faults.{fault_of, check_fault, defaults_fault, entered_fault, level_fault, other_fault}
 use Rattle.clap.specs.Faults.{settle_fault, step_fault, turn_fault, walk_fault, word_fault, is_simple_and_free}
-use Rattle.clap.specs.Simple.{new_app, on_top, App, HasMatchesOf, Shape, is_simple, subcommand_of, argument_words}
-use Rattle.clap.specs.Simple.{built, entered, help_shape, names_of, rows_at, shape_of, app_of, subcommand_rows_of}
 use Rattle.clap.specs.Matches.{first_value, matched_of, raw_values}
-use Rattle.clap.specs.declared.builder.command.Command.{Command, TheViews.out-Command as fields_of}
-use Rattle.clap.specs.declared.parser.matches.{ArgMatches.ArgMatches, Found.Found}
-use Rattle.hidlog.specs.declared.args.{CommandOptions.CommandOptions, ShowFormat.TheVariants.Lines}
-use Rattle.hidlog.specs.declared.args.Verbosity.{TheVariants.ByTerminal}
-use Rattle.hidlog.specs.declared.cli.{CommandEntry.CommandEntry, CommandParameter.CommandParameter}
-use Rattle.hidlog.specs.CommandLine.{Task, command, command_for, rule_for, command_task, parsed_command_line, grammar}
-use Rattle.hidlog.specs.CommandLine.{argument_errors, log_paths_of, play, check, show, task_for, to_texts}
+use Rattle.clap.specs.declared.builder.command.Command.{Command}
+use Rattle.clap.specs.declared.builder.command.Command.TheViews.{out-Command as fields_of}
+use Rattle.clap.specs.declared.parser.matches.ArgMatches.{ArgMatches}
+use Rattle.clap.specs.declared.parser.matches.Found.{Found}
+use Rattle.hidlog.specs.declared.args.CommandOptions.{CommandOptions}
+use Rattle.hidlog.specs.declared.args.ShowFormat.TheVariants.{Lines}
+use Rattle.hidlog.specs.declared.args.Verbosity.TheVariants.{ByTerminal}
+use Rattle.hidlog.specs.declared.cli.CommandEntry.{CommandEntry}
+use Rattle.hidlog.specs.declared.cli.CommandParameter.{CommandParameter}
 use Rattle.clap.specs.declared.error.kind.ErrorKind.TheVariants as kind
 use Rattle.session_log.specs.declared.command.ReplayMode.TheVariants as playing
+
+-- ---- what the program answers where no task was found
+
+no_kinds : (kinds : Kinds) (found : Option (Task × Verbosity)) (ask : Task × Verbosity) → unless kinds found ≡ Some ask →
+    kinds ≡ []
+no_kinds [] found ask is = refl
+no_kinds (kind ∷ kinds) found ask is = cc
+
+-- Words that ask for something have no fault.
+faultless : (words : List (List ℕ)) (ask : Task × Verbosity) → parsed_command_line words ≡ Some ask → argument_errors words ≡ []
+unfolding parsed_command_line
+faultless words ask is = no_kinds (argument_errors words) _ ask is
+
+only_memory : (kind : ErrorKind) (kinds : Kinds) → kinds ≡ [] → IsAmong kind (OutOfMemory ∷ kinds) → kind ≡ OutOfMemory
+only_memory kind kinds none (inl memory) = memory
+only_memory kind kinds none (inr other) = absurd (subst (IsAmong kind) none other)
+
+lacks_memory : {L H : Type 0} (kind : ErrorKind) → kind ≡ OutOfMemory → L ⊎ ((kind ≢ OutOfMemory) × H) → L
+lacks_memory kind memory (inl lacks) = lacks
+lacks_memory kind memory (inr other) = absurd (other.0 memory)
+
+-- Where the words ask for something, memory was wanting.
+pub unasked : {L H Q : Type 0} (P : Task × Verbosity → Type 0) (words : List (List ℕ)) (kind : ErrorKind) →
+    IsAmong kind (OutOfMemory ∷ argument_errors words)
+    → L ⊎ ((kind ≢ OutOfMemory) × H) → Q → MatchOption (parsed_command_line words) Q (λ ask. P ask ⊎ L)
+unasked {L} {H} {Q} P words kind among explained answer = go (parsed_command_line words) refl
+  where
+    go : (o : Option (Task × Verbosity)) → parsed_command_line words ≡ o → MatchOption o Q (λ ask. P ask ⊎ L)
+    go None is = answer
+    go (Some ask) is = inr (lacks_memory kind (only_memory kind (argument_errors words) (faultless words ask is) among)
+        explained)
+
+-- Where the words ask for something, that is done.
+pub done : (Q : Type 0) (P : Task × Verbosity → Type 0) (words : List (List ℕ)) (ask : Task × Verbosity) →
+    parsed_command_line words ≡ Some ask → P ask → MatchOption (parsed_command_line words) Q P
+done Q P words ask is h = rw is h
+
+-- ---- what follows from the rules of `clap` for the words of the program
 
 -- the rules of which clap's clauses speak
 is_simple_grammar : is_simple_and_free grammar ≡ true
@@ -56,7 +111,7 @@ plain_names c positional word h = tt
 
 flag_names : (c : List Rule) (waiting : Waiting) (word : Text) (h : Held) (met : Outcome) →
     NamesNothing (after_flag c waiting word h met).1
-flag_names c waiting word h done = tt
+flag_names c waiting word h done_of_walk = tt
 flag_names c waiting word h (waits id) = tt
 flag_names c waiting word h plain = plain_names c waiting word h
 flag_names c waiting word h refused = plain_names c waiting word h

@@ -1,16 +1,161 @@
--- Several logs that are compared, one after the other.
-use Rattle.std.proofs.Common.{◌≡◌, ◌∙◌, ℕ, zero, suc, ◌+◌, ◌<◌, false, List, [], ◌∷◌, ◌++◌, length, take, drop, get_or, Option, Ok, Err}
-use Rattle.std.proofs.Common.{None, Some, OnErr, OnOk, is_err, true, inl, inr, refl, sym, ap, rules, subst}
-use Rattle.std.{specs.Borrow.Bor, proofs.lemmas.List.map-append, proofs.lemmas.List.take_more, proofs.lemmas.List.take-append-drop}
-use Rattle.session_log.specs.Command.{Status}
+-- Several logs that are compared, one after the other, and their streams.
+use Rattle.std.proofs.Common.{Option, ◌≡◌, ◌+◌, ◌≤◌, ℕ, List, [], ◌++◌, length, take, drop, sym, ap, ◌∙◌, arith}
+use Rattle.std.proofs.Common.{take_at, length-take-le, take-append-drop, append_assoc, None, Some, Result, Ok, Err}
+use Rattle.std.proofs.Common.{OnOk, is_err, false, ◌⊎◌, zero, suc, min, IfSome, refl, subst, inl, inr, append-nil}
+use Rattle.std.proofs.Common.{length-append, ◌<◌, ◌∷◌, get_or, OnErr, true, rules}
+use Rattle.std.proofs.lemmas.List.{drop-append-le, drop-take, drop-drop, take_all, length-drop, length-take, drop_all}
+use Rattle.std.proofs.lemmas.List.{drop_at, map-append, take_more, append_cancel_right}
+use Rattle.std.specs.Io.KnownBytes.{Appends, Consumes, Keeps, append_known, prepend_known}
+use Rattle.hidlog.specs.Program.{overwritten_at}
+use Rattle.std.specs.Borrow.{Bor}
+use Rattle.session_log.specs.Command.{Status, start_with}
 use native.Mathlib.Numerals.{unary_clauses}
-use Rattle.std.specs.Io.KnownBytes.{Consumes}
-use Rattle.std.proofs.lemmas.List.{append_cancel_right}
-use Rattle.session_log.specs.{Check.first_comparison, Check.check_history, Command.start_with, Log.fault_of, Log.play_all}
-use Rattle.session_log.specs.Ending.{Refused, ending_of_fault}
+use Rattle.session_log.specs.Check.{first_comparison, check_history}
+use Rattle.session_log.specs.Replay.{fault_of, play_all}
+use Rattle.session_log.specs.Replay.{Refused, ending_of_fault}
 use Rattle.session_log.specs.declared.fault.LogFault.{LogFault}
-use Rattle.hidlog.specs.{CommandLine.to_texts, Fault.FaultText, Model.Model, Several.AreSame, Several.FailsAt, Several.HasFailure, Several.IsSameAt}
-use Rattle.hidlog.specs.Several.{EndsCheck, HasFault, IsSame}
+use Rattle.hidlog.specs.CommandLine.{to_texts}
+use Rattle.hidlog.specs.Program.{FaultText}
+use Rattle.hidlog.specs.Program.{Model}
+use Rattle.hidlog.specs.Commands.{AreSame, FailsAt, HasFailure, IsSameAt, EndsCheck, HasFault, IsSame}
+
+-- ---- what is held of a stream, as some of it is handed on or more is read
+
+-- the front of what is unread was handed on
+pub handed_on : (at n : ℕ) (held out copied : List ℕ) → n ≤ length (drop at held) → copied ≡ take n (drop at held)
+    → drop at held ≡ take n (copied ++ drop n out) ++ drop (at + n) held
+handed_on at n held out copied fits same =
+    sym (take-append-drop n (drop at held))
+    ∙ ap (λ l. l ++ drop n (drop at held)) (sym (ap (λ l. take n (l ++ drop n out)) same
+    ∙ take_at (take n (drop at held)) (drop n out) n (length-take-le n (drop at held) fits)))
+    ∙ ap (λ l. take n (copied ++ drop n out) ++ l) (drop-drop n at held)
+
+-- what was read behind all that was handed on is unread
+pub read_after : (a b : Option (List ℕ)) (end n : ℕ) (held : List ℕ) → Consumes a b (take n (drop end held))
+    → Keeps a (prepend_known (drop end (take (end + n) held)) b)
+read_after None b end n held p = tt
+read_after (Some x) None end n held p = absurd p
+read_after (Some x) (Some y) end n held p = ap (λ l. l ++ y) (drop-take end n held) ∙ sym p
+
+-- where nothing is unread, nothing was read
+pub none_read : (end n : ℕ) (held : List ℕ) → end + n ≤ length held → drop end (take (end + n) held) ≡ [] → n ≡ 0
+none_read end n held fits none =
+    omega (arith, ap length none, length-drop end (take (end + n) held), length-take (end + n) held)
+
+-- What a target holds back is the end of what it took.
+
+-- some of it was handed on
+pub handed : (a t u : Option (List ℕ)) (at n : ℕ) (held : List ℕ) → Keeps a (append_known t (drop at held)) →
+    Appends t u (take n (drop at held))
+    → Keeps a (append_known u (drop (at + n) held))
+handed None t u at n held p q = tt
+handed (Some x) None u at n held p q = absurd p
+handed (Some x) (Some y) None at n held p q = absurd q
+handed (Some x) (Some y) (Some z) at n held p q =
+    ap (λ l. l ++ drop (at + n) held) q ∙ append_assoc y (take n (drop at held)) (drop (at + n) held)
+    ∙ ap (λ l. y ++ (take n (drop at held) ++ l)) (sym (drop-drop n at held))
+    ∙ ap (λ l. y ++ l) (take-append-drop n (drop at held)) ∙ p
+
+-- a piece is held back, too
+pub held_back : (t : Option (List ℕ)) (at : ℕ) (held more piece : List ℕ) → at ≤ length held → more ≡ held ++ piece
+    → Appends (append_known t (drop at held)) (append_known t (drop at more)) (take (length piece) piece)
+held_back None at held more piece p q = tt
+held_back (Some x) at held more piece p q =
+    ap (λ l. x ++ drop at l) q ∙ ap (λ l. x ++ l) (drop-append-le at held piece p)
+    ∙ sym (append_assoc x (drop at held) piece)
+    ∙ ap (λ l. (x ++ drop at held) ++ l) (sym (take_all (length piece) piece (omega arith)))
+
+-- ---- a file that is written over
+
+-- behind the end a piece is appended
+at_end : (has piece : List ℕ) (old : ℕ) → length has ≡ old → overwritten_at has old piece ≡ has ++ piece
+at_end has piece old e =
+    ap (λ l. l ++ (piece ++ drop (old + length piece) has)) (take_all old has (omega (arith, e)))
+    ∙ ap (λ l. has ++ (piece ++ l)) (drop_all (old + length piece) has (omega (arith, e)))
+    ∙ ap (λ l. has ++ l) (append-nil piece)
+
+next : (m n : ℕ) → (m ≤ n) ⊎ (n ≤ m) → (suc m ≤ suc n) ⊎ (suc n ≤ suc m)
+next m n (inl p) = inl (omega (arith, p))
+next m n (inr p) = inr (omega (arith, p))
+
+either : (m n : ℕ) → (m ≤ n) ⊎ (n ≤ m)
+either zero n = inl (omega arith)
+either (suc m) zero = inr (omega arith)
+either (suc m) (suc n) = next m n (either m n)
+
+-- what the file is too short for was appended, and the others are written over its front
+whole_by : (has bytes : List ℕ) (old shared : ℕ) → length has ≡ old → shared ≡ min old (length bytes)
+    → (old ≤ length bytes) ⊎ (length bytes ≤ old)
+    → take (length bytes) (take shared bytes ++ drop (0 + length (take shared bytes)) (has ++ drop shared bytes))
+    ≡ bytes
+whole_by has bytes old shared e s (inl p) =
+    ap (λ l. take (length bytes) (take shared bytes ++ l))
+    (drop_at has (drop shared bytes) (0 + length (take shared bytes))
+    (omega (arith, e, s, p, length-take shared bytes)))
+    ∙ ap (take (length bytes)) (take-append-drop shared bytes)
+    ∙ take_all (length bytes) bytes (omega arith)
+whole_by has bytes old shared e s (inr p) =
+    ap (λ l. take (length bytes) (l ++ drop (0 + length (take shared bytes)) (has ++ drop shared bytes)))
+    (take_all shared bytes (omega (arith, s, p)))
+    ∙ take_at bytes (drop (0 + length (take shared bytes)) (has ++ drop shared bytes)) (length bytes) refl
+
+-- its length then is at least that of the bytes
+long_by : (has bytes : List ℕ) (old shared : ℕ) → length has ≡ old → shared ≡ min old (length bytes)
+    → length bytes ≤ length (take shared bytes ++ drop (0 + length (take shared bytes)) (has ++ drop shared bytes))
+long_by has bytes old shared e s =
+    omega (
+      arith,
+      e,
+      s,
+      length-append (take shared bytes) (drop (0 + length (take shared bytes)) (has ++ drop shared bytes)),
+      length-drop (0 + length (take shared bytes)) (has ++ drop shared bytes),
+      length-append has (drop shared bytes),
+      length-take shared bytes,
+      length-drop shared bytes,
+    )
+
+written_whole : (a b c d : Option (List ℕ)) (bytes : List ℕ) (old shared : ℕ)
+    → IfSome a (λ has. length has ≡ old) → shared ≡ min old (length bytes)
+    → IfSome a (λ has. old ≤ length has → b ≡ Some (overwritten_at has old (drop shared bytes)))
+    → IfSome b (λ has. 0 ≤ length has → c ≡ Some (overwritten_at has 0 (take shared bytes)))
+    → IfSome c (λ has. length bytes ≤ length has → d ≡ Some (take (length bytes) has))
+    → IfSome a (λ _. d ≡ Some bytes)
+written_whole None b c d bytes old shared size s first second last = tt
+written_whole (Some has) b c d bytes old shared size s first second last =
+    let one : b ≡ Some (has ++ drop shared bytes) = first (omega (arith, size))
+    ∙ ap Some (at_end has (drop shared bytes) old size) in
+    let two : c ≡ Some (overwritten_at (has ++ drop shared bytes) 0 (take shared bytes)) = subst
+    (λ k. IfSome k (λ has. 0 ≤ length has → c ≡ Some (overwritten_at has 0 (take shared bytes)))) one second (omega arith) in
+    subst (λ k. IfSome k (λ has. length bytes ≤ length has → d ≡ Some (take (length bytes) has))) two last
+    (long_by has bytes old shared size s)
+    ∙ ap Some (whole_by has bytes old shared size s (either old (length bytes)))
+
+pub written_over : {E F : Type 0} (r : Result (Unit {0}) E) (q : Result (Unit {0}) F) (a b c d : Option (List ℕ))
+    (bytes front more : List ℕ)
+    (old shared : ℕ) → front ≡ take shared bytes → more ≡ drop shared bytes
+    → IfSome a (λ has. length has ≡ old) → shared ≡ min old (length bytes)
+    → is_err q ≡ false → OnOk q (IfSome a (λ has. old ≤ length has → b ≡ Some (overwritten_at has old more)))
+    → IfSome b (λ has. 0 ≤ length has → c ≡ Some (overwritten_at has 0 front))
+    → OnOk r (IfSome c (λ has. length bytes ≤ length has → d ≡ Some (take (length bytes) has)))
+    → OnOk r (IfSome a (λ _. d ≡ Some bytes))
+written_over (Err x) q a b c d bytes front more old shared f m size s is first second last = tt
+written_over (Ok x) (Err y) a b c d bytes front more old shared f m size s is first second last =
+    absurd (grind (arith, is))
+written_over (Ok x) (Ok y) a b c d bytes front more old shared f m size s is first second last =
+    written_whole a b c d bytes old shared size s
+    (subst (λ l. IfSome a (λ has. old ≤ length has → b ≡ Some (overwritten_at has old l))) m first)
+    (subst (λ l. IfSome b (λ has. 0 ≤ length has → c ≡ Some (overwritten_at has 0 l))) f second)
+    last
+
+-- Where the length isn't known before, the size is a premise.
+pub where_sized : {E : Type 0} (r : Result (Unit {0}) E) (a d : Option (List ℕ)) (bytes : List ℕ) (old : ℕ)
+    → (IfSome a (λ has. length has ≡ old) → OnOk r (IfSome a (λ _. d ≡ Some bytes)))
+    → OnOk r (IfSome a (λ has. length has ≡ old → d ≡ Some bytes))
+where_sized (Err x) a d bytes old f = tt
+where_sized (Ok x) None d bytes old f = tt
+where_sized (Ok x) (Some has) d bytes old f = λ size. f size
+
+-- ---- several logs that are compared, one after the other
 
 pub on_ok : {P : Type 0} (r : Status) → P → OnOk r P
 on_ok (Ok x) h = h

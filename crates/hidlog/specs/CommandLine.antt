@@ -56,7 +56,7 @@ rule_for parameter = rule_of_form parameter.form parameter.word.now
 abbrev pub command_for : CommandEntry → Shape
 command_for entry = command entry.word.now (map rule_for entry.parameters.now)
 
--- The five commands. The command line must contain one of them. clap adds `help` and `--version`.
+-- The five commands. The command line must contain one of them. clap adds `help`, `--help` and `--version`.
 abbrev pub grammar : App
 grammar = record {
   top = record (new_shape (codes "hidlog")) { has_version = true; subcommand_required = true; is_leaf = false };

@@ -1,24 +1,133 @@
--- The effect of each command on the host: its files, log, output and error output. `old` is the host before the
--- command, and `new` after it.
-use Rattle.std.specs.Prelude.{◌≡◌, ◌≢◌, ◌⊎◌, ◌<◌, ◌-◌, ◌^◌, ℕ, Bool, true, false, List, [], ◌∷◌, Option, Some, None, Ok, Err}
-use Rattle.std.specs.Prelude.{MatchOption, MatchResult, IsSomeAnd, OnOk, OnErr, codes}
+-- The effect of each command on the host: its files, log, output and error output.
+use Rattle.std.specs.Prelude.{◌≡◌, ◌⊎◌, ℕ, true, List, [], Option, Some, None, Ok, Err, ◌+◌, ◌∷◌, MatchOption, ◌≢◌}
+use Rattle.std.specs.Prelude.{◌<◌, ◌-◌, ◌^◌, Bool, false, MatchResult, IsSomeAnd, OnOk, OnErr, codes}
+use Rattle.cred_table.specs.declared.fault.SnapshotFault.{SnapshotFault}
+use Rattle.cred_table.specs.declared.row.Row.{Row}
+use Rattle.cred_table.specs.Snapshots.{IsSnapshot, Loads, Refuses as RefusesSnapshot}
+use Rattle.token_session.specs.Meters.{SessionState}
+use Rattle.hidlog.specs.Program.{RunResult, alone, reasoned, FaultText, of_log, WritesFault, to_run_result}
+use Rattle.hidlog.specs.Program.{cannot_read, cannot_write, no_memory, refused, cannot_read_log, writing_failed}
+use Rattle.hidlog.specs.Program.{Ended, IsWrittenTo, IsWhole, WritesAtMostOne, FlushesPending, is_help}
+use Rattle.std.specs.Io.KnownBytes.{Consumes}
+use Rattle.session_log.specs.Check.{first_comparison, check_history}
+use Rattle.session_log.specs.Replay.{Ending, Done, Refused, Unread, Unwritten, ending_of_fault, fault_of, play_all}
+use Rattle.session_log.specs.Replay.{ending_of, ReadsTo}
+use Rattle.session_log.specs.declared.fault.LogFault.{LogFault}
+use Rattle.session_log.specs.Command.{start_with, IsCounted, PlaysLog, Status}
+use Rattle.session_log.specs.Lines.{IsAtEndOfInput, WritesLogLine}
+use Rattle.hidlog.specs.CommandLine.{named, Task, argument_errors, parsed_command_line, explains, play, check, show}
+use Rattle.hidlog.specs.Program.{Model}
 use Rattle.std.specs.Bool.{MatchBool}
 use Rattle.clap.specs.Words.{IsAmong}
-use Rattle.clap.specs.declared.error.kind.ErrorKind.{ErrorKind, TheVariants.OutOfMemory}
+use Rattle.clap.specs.declared.error.kind.ErrorKind.{ErrorKind}
+use Rattle.clap.specs.declared.error.kind.ErrorKind.TheVariants.{OutOfMemory}
 use Rattle.authn_core.specs.Turn.{Start}
-use Rattle.cred_table.specs.declared.row.Row.{Row}
-use Rattle.token_session.specs.Meters.{SessionState}
-use Rattle.session_log.specs.Command.{IsCounted, PlaysLog, Status, start_with}
-use Rattle.session_log.specs.{Ending.ending_of, Replay.ReadsTo, Streams.IsAtEndOfInput, Streams.WritesLogLine}
-use Rattle.session_log.specs.declared.command.ReplayMode.{ReplayMode, TheVariants.Check, TheVariants.Live}
+use Rattle.session_log.specs.declared.command.ReplayMode.{ReplayMode}
+use Rattle.session_log.specs.declared.command.ReplayMode.TheVariants.{Check, Live}
 use Rattle.session_show.specs.Shown.{IsLineText, Shows, read_only_world}
-use Rattle.session_show.specs.declared.detail.Detail.{Detail, TheVariants.Explained, TheVariants.Fixed}
-use Rattle.hidlog.specs.CommandLine.{Task, argument_errors, parsed_command_line, explains, named, play, check, show}
-use Rattle.hidlog.specs.declared.args.ShowFormat.{ShowFormat, TheVariants.Lines}
-use Rattle.hidlog.specs.{declared.host.Host.Host, Model.Model, Several.AreSame, Several.HasFailure, Program.writing_failed}
-use Rattle.hidlog.specs.Fault.{FaultText, RunResult, WritesFault, to_run_result, of_log, reasoned}
-use Rattle.hidlog.specs.Program.{Ended, IsWrittenTo, IsWhole, WritesMore, FlushesPending, cannot_read_log, is_help, no_memory}
-use Rattle.hidlog.specs.Saved.{FailsToOpen, FailsToSave, OpenSource, Saves}
+use Rattle.session_show.specs.declared.detail.Detail.{Detail}
+use Rattle.session_show.specs.declared.detail.Detail.TheVariants.{Explained, Fixed}
+use Rattle.hidlog.specs.declared.args.ShowFormat.{ShowFormat}
+use Rattle.hidlog.specs.declared.args.ShowFormat.TheVariants.{Lines}
+use Rattle.hidlog.specs.declared.host.Host.{Host}
+
+-- The snapshot from which a session starts, and the snapshot to which its credentials are saved. The contents of files
+-- are those of `Files` (src/files.rt).
+
+-- The rows are those of the snapshot at the path. Without a path, there are no rows.
+abbrev pub OpenSource : {D : Type 0} → (D → List ℕ → List ℕ → Type 0) → D → Option (List ℕ) → List Row → Type 0
+OpenSource holds files None rows = rows ≡ []
+OpenSource holds files (Some path) rows = (text : List ℕ) × holds files path text × Loads 64 text (Ok tt) rows
+
+-- The file at the path cannot be read, its snapshot is rejected, or an allocation failed.
+abbrev pub FailsToOpen : {D : Type 0} → (D → List ℕ → List ℕ → Type 0) → (D → List ℕ → Type 0) → D → Option (List ℕ)
+    → RunResult → Type 0
+FailsToOpen holds unreadable files None came = ⊥
+FailsToOpen holds unreadable files (Some path) came =
+    ((came ≡ Err (reasoned 2 cannot_read)) × unreadable files path)
+    ⊎ ((came ≡ Err (alone 2 no_memory))
+    ⊎ ((text : List ℕ) × (fault : SnapshotFault) × (came ≡ Err (reasoned 2 (refused fault))) × holds files path text
+    × RefusesSnapshot 64 text fault))
+
+-- The bytes of a snapshot of the session's credentials.
+abbrev pub IsSaved : SessionState → List ℕ → Type 0
+IsSaved s bytes = (rows : List Row) × (rows ≡ s.machine.core.state.rows) × IsSnapshot true 64 rows bytes
+
+-- A snapshot of the credentials was written to the path; or writing failed; or an allocation failed. Without a path,
+-- nothing was written. A pair is the files before and after.
+abbrev pub Saves : {D : Type 0} → (D → List ℕ → List ℕ → D → Type 0) → (D → List ℕ → List ℕ → D → Type 0)
+    → Option (List ℕ) → SessionState → RunResult → (D × D) → Type 0
+Saves written unwritten None s came files = (came ≡ Ok tt) × (files.1 ≡ files.0)
+Saves written unwritten (Some path) s came files =
+    ((bytes : List ℕ) × IsSaved s bytes
+    × (((came ≡ Ok tt) × written files.0 path bytes files.1)
+    ⊎ ((came ≡ Err (reasoned 2 cannot_write)) × unwritten files.0 path bytes files.1)))
+    ⊎ ((came ≡ Err (alone 2 no_memory)) × (files.1 ≡ files.0))
+
+-- The file at the path is not writable.
+abbrev pub FailsToSave : {D : Type 0} → (D → List ℕ → Type 0) → D → Option (List ℕ) → RunResult → Type 0
+FailsToSave unwritable files None came = ⊥
+FailsToSave unwritable files (Some path) came = (came ≡ Err (reasoned 2 cannot_write)) × unwritable files path
+
+-- ---- comparing several logs one after the other. A pair is a source before and after
+
+module _ {D I O F : Type 0} (model : Model D I O F) where
+  -- The whole log was read, and its packets are exactly those sent by a key that starts with the credentials of the
+  -- snapshot at the path.
+  abbrev pub IsSame : Option (List ℕ) → D → (I × I) → Type 0
+  IsSame load files input = (rows : List Row) × (bytes : List ℕ) × OpenSource model.holds files load rows
+      × Consumes (model.left input.0) (model.left input.1) bytes
+      × (fault_of (check_history (start_with rows)) (play_all (check_history (start_with rows)) (first_comparison []) bytes) ≡ None)
+      × IsAtEndOfInput model.left model.ended input.1
+
+  -- The log at this path, or on standard input, has no difference, as `IsSame` defines it.
+  abbrev pub IsSameAt : Option (List ℕ) → D → (log : List ℕ) → (I × I) → Type 0
+  IsSameAt load files log input = (start : I)
+      × MatchOption (named (Some log)) (Unit {0}) (λ path. model.opened input.0 path start)
+      × IsSame load files (start, input.1)
+
+  -- The logs were read one after the other, and no log has a difference.
+  abbrev pub AreSame : Option (List ℕ) → D → (logs : List (List ℕ)) → (I × I) → Type 0
+  AreSame load files [] input = input.1 ≡ input.0
+  AreSame load files (log ∷ logs) input =
+      (between : I) × IsSameAt load files log (input.0, between) × AreSame load files logs (between, input.1)
+
+  -- How checking these bytes ended on a key that starts with these credentials: with the first error in the log, such
+  -- as a difference; with a failed read; or without memory for the report. A pair is a source before and after.
+  abbrev pub EndsCheck : List Row → Ending → (bytes : List ℕ) → (I × I) → Type 0
+  EndsCheck rows Done bytes input = ⊥
+  EndsCheck rows (Refused fault) bytes input =
+      fault_of (check_history (start_with rows)) (play_all (check_history (start_with rows)) (first_comparison []) bytes)
+      ≡ Some fault
+  EndsCheck rows (Unread line) bytes input = model.unread input.1 ≡ model.unread input.0 + 1
+  EndsCheck rows Unwritten bytes input = Unit {0}
+
+  -- Checking the log ended with this error.
+  abbrev pub HasFault : Option (List ℕ) → D → LogFault → (I × I) → Type 0
+  HasFault load files fault input = (rows : List Row) × (bytes : List ℕ) × OpenSource model.holds files load rows
+      × Consumes (model.left input.0) (model.left input.1) bytes
+      × EndsCheck rows (ending_of_fault fault) bytes input
+
+  -- The log at this path, or on standard input, cannot be opened; or the snapshot cannot be loaded; or checking the log
+  -- ended with an error.
+  abbrev pub FailsAt : Option (List ℕ) → D → (log : List ℕ) → FaultText → (I × I) → Type 0
+  FailsAt load files log told input =
+      ((told ≡ reasoned 1 cannot_read_log)
+      × MatchOption (named (Some log)) (Unit {0}) (λ path. model.unopenable input.0 path))
+      ⊎ FailsToOpen model.holds model.unreadable files load (Err told)
+      ⊎ ((start : I) × (fault : LogFault) × (told ≡ of_log)
+      × MatchOption (named (Some log)) (Unit {0}) (λ path. model.opened input.0 path start)
+      × HasFault load files fault (start, input.1))
+
+  -- The logs were read one after the other up to the first that fails, as `FailsAt` defines it. The logs before it have
+  -- no difference.
+  abbrev pub HasFailure : Option (List ℕ) → D → (logs : List (List ℕ)) → I → Type 0
+  HasFailure load files [] input = ⊥
+  HasFailure load files (log ∷ logs) input =
+      ((told : FaultText) × (after : I) × FailsAt load files log told (input, after))
+      ⊎ ((between : I) × IsSameAt load files log (input, between) × HasFailure load files logs between)
+
+-- ---- the effect of each command. `old` is the host before the command, and `new` after it
 
 -- The path for `--save`, if it is checked before the log is read. Only `live` does that, because its input may arrive
 -- slowly.
@@ -177,7 +286,7 @@ module _ {D I O F : Type 0} (model : Model D I O F) where
   abbrev pub Plays : List (List ℕ) → Status → (old new : Host D I O F) → Type 0
   Plays words status old new = (ran : Host D I O F) × Answers words status old ran
       × (new ≡ record ran { input = new.input; faults = new.faults })
-      × WritesMore model.parsed model.unsaid (ran.faults, new.faults)
+      × WritesAtMostOne model.parsed model.unsaid (ran.faults, new.faults)
 
   -- The program ran with these arguments on a source with the unread bytes `left` and a target that had accepted the
   -- bytes `taken`, as `Plays` defines it; or an allocation failed before, and the failure was reported to `faults`.

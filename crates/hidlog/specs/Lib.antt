@@ -1,9 +1,3 @@
 pub mod CommandLine
-pub mod Program
-pub mod Fault
-pub mod Model
-pub mod Saved
-pub mod Several
 pub mod Commands
-pub mod Streams
-pub mod Opened
+pub mod Program

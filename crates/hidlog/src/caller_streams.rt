@@ -1,6 +1,6 @@
 //! The streams of a caller, in place of the process's streams.
 ghost use Rattle.std.specs.Prelude.{[]};
-ghost use Rattle.hidlog.specs.Opened.{caller_left};
+ghost use Rattle.hidlog.specs.Program.{caller_left};
 
 use crate::buffered_output::Output;
 use crate::logs::{OpenSource, open_file};

@@ -2,10 +2,10 @@
 ghost use Rattle.std.specs.Prelude.{◌≡◌, ◌<◌, ◌-◌, ◌^◌, ◌⊎◌, Err, IfErr, OnErr, OnOk};
 ghost use Rattle.hidlog.specs.CommandLine.{to_path, to_texts};
 ghost use Rattle.hidlog.specs.Commands.{Compares};
-ghost use Rattle.hidlog.specs.Model.{CanFail};
-ghost use Rattle.hidlog.specs.Fault.{FaultText, exit_status, to_fault_text};
-ghost use Rattle.hidlog.specs.Saved.{FailsToOpen};
-ghost use Rattle.hidlog.specs.Several.{FailsAt, IsSameAt};
+ghost use Rattle.hidlog.specs.Program.{CanFail};
+ghost use Rattle.hidlog.specs.Program.{FaultText, exit_status, to_fault_text};
+ghost use Rattle.hidlog.specs.Commands.{FailsToOpen};
+ghost use Rattle.hidlog.specs.Commands.{FailsAt, IsSameAt};
 
 use crate::buffered_output::Output;
 use crate::commands::{new_program_session, open_log};
@@ -243,8 +243,9 @@ impl<D: Files, L: Logs, O: Output, E: Target> Host<D, L, O, E> {
         }
     }
 
-    /// Checks each log on a new session. The error is the exit status: 1 if a log differs or has an error, or 2 if the
-    /// snapshot cannot be loaded. After 2, no further log is read.
+    /// Checks each log on a new session. The error is the exit status: 1 if a log differs, has an error or can't be
+    /// opened, or if a report can't be written; or 2 if the snapshot can't be loaded or an allocation fails. After 2,
+    /// no further log is read.
     pub fn check_each(&mut self, wished: &ReportOptions<'_>, paths: &[&str]) -> Result<(), u8>
         ensures status { IfErr result (λ code. (code ≡ 1) ⊎ (code ≡ 2)) }
         ensures compares { Compares ⟦<Self as Modeled>⟧.model (to_path wished.now.load) (to_texts paths.now) result

@@ -4,10 +4,10 @@ ghost use Rattle.session_log.specs.Command.{start_with};
 ghost use Rattle.token_session.specs.Meters.{session_of};
 ghost use Rattle.hidlog.specs.CommandLine.{named, to_path};
 ghost use Rattle.hidlog.specs.Commands.{StartsFromSnapshot, RunsCommand, RunsOn, checked_save_path};
-ghost use Rattle.hidlog.specs.Fault.{to_result, reasoned, to_fault_text};
-ghost use Rattle.hidlog.specs.Model.{CanFail};
+ghost use Rattle.hidlog.specs.Program.{to_result, reasoned, to_fault_text};
+ghost use Rattle.hidlog.specs.Program.{CanFail};
 ghost use Rattle.hidlog.specs.Program.{cannot_read_log};
-ghost use Rattle.hidlog.specs.Saved.{FailsToSave};
+ghost use Rattle.hidlog.specs.Commands.{FailsToSave};
 
 use crate::buffered_output::{Output, flush_then};
 use crate::fault::ProgramFault;
@@ -50,7 +50,7 @@ pub fn open_log<'a, L: Logs>(
     }
 }
 
-// A session takes 29 kB. Each command creates its session in a separate stack frame, so that the session isn't copied
+// A session takes 31 kB. Each command creates its session in a separate stack frame, so that the session isn't copied
 // and only one session is on the stack at a time.
 
 /// Returns the program's initial session, without credentials.

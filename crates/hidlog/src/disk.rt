@@ -1,6 +1,6 @@
 //! An interface to the files of a disk, by path, and to open files.
 ghost use Rattle.std.specs.Prelude.{◌≡◌, ◌≤◌, ℕ, Bool, true, false, List, None, Option, Some, is_some, length, take, IfOk, IfSome, OnOk};
-ghost use Rattle.hidlog.specs.Streams.{overwritten_at};
+ghost use Rattle.hidlog.specs.Program.{overwritten_at};
 
 use std::fs::{self, File, Metadata, OpenOptions, TryLockError};
 use std::io::{self, Error, ErrorKind, Read, Write};

@@ -31,9 +31,9 @@ type CallerHost<'a, S, O, E> = Host<
 /// Runs the program on the streams of a caller: `input` is standard input, and error messages are written to `faults`.
 /// The arguments begin with the program's name. Snapshots, and logs with a path, are files of the system.
 ///
-/// The exit status is 0 for `Ok`, or else the error: 1 for an error in the log, and 2 for invalid arguments, a snapshot
-/// that can't be used, or a failed allocation outside the log. The exit status doesn't depend on whether the error
-/// message can be written.
+/// The exit status is 0 for `Ok`, or else the error: 1 for an error in the log or a log that can't be opened, and 2 for
+/// invalid arguments, a snapshot that can't be used, or a failed allocation outside the log. The exit status doesn't
+/// depend on whether the error message can be written.
 pub fn run<'a, S: Source + Drop, O: Target + Drop, E: Target + Drop>(
     rt: &'a HostRuntime,
     words: &[&str],
@@ -122,7 +122,8 @@ fn run_in_process<'a>(
     host.play(words)
 }
 
-/// Runs the program with the arguments and streams of its process, and reports a failed write to the output.
+/// Runs the program with the arguments and streams of its process. If texts are explained, also reports why a write to
+/// the output failed.
 pub fn run_process(rt: &HostRuntime) -> ExitCode {
     let mut errors = RememberError {
         inner: rt.stderr(),

@@ -26,7 +26,7 @@ pub enum ProgramFault<'a> {
 }
 
 impl ProgramFault<'_> {
-    ghost use Rattle.hidlog.specs.Fault.{exit_status, text_of};
+    ghost use Rattle.hidlog.specs.Program.{exit_status, text_of};
 
     /// Returns the exit status.
     pub fn status(&self) -> u8
@@ -101,7 +101,7 @@ impl Written for Notice {
 #[derive(Clone, Copy)]
 pub struct ErrorDetail<'a> {
     pub fault: &'a ProgramFault<'a>,
-    /// Its path.
+    /// The path that the error concerns.
     pub path: &'a str,
     /// The number of the copy that an interrupted write left beside the snapshot, if any.
     pub copy: Option<u64>,
@@ -173,10 +173,7 @@ impl Written for ErrorDetail<'_> {
             }
         }
         if let Some(number) = self.copy {
-            copied = Some((
-                "; what a --save that was cut off had to write is in ",
-                number,
-            ));
+            copied = Some(("; an interrupted --save left its new content in ", number));
         }
         if let Some((text, number)) = copied {
             buf.text(text);

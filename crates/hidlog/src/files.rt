@@ -1,7 +1,7 @@
 //! Reading and writing snapshot files.
 ghost use Rattle.std.specs.Prelude.{◌≡◌, ◌⊎◌, ℕ, List, Some, true, length, IfErr, IfOk, IfSome, MatchResult, OnOk};
 ghost use Rattle.std.specs.IoError.{error_kind};
-ghost use Rattle.hidlog.specs.Streams.{IsWritten};
+ghost use Rattle.hidlog.specs.Program.{IsWritten};
 
 use crate::disk::{Disk, OpenFile, PathKind};
 use crate::sums::{MAX_SUMS_LEN, SumLine, are_sums};
@@ -51,14 +51,16 @@ pub trait Files {
     fn lock_input(&self, path: &str, save: &str) -> io::Result<Option<Self::Held>>
         ensures { IfErr result (λ _. unreadable self.now path.now) };
 
-    /// Checks whether a file can be written, as far as possible without writing to it. Fails if it is the log.
+    /// Checks whether a file can be written, as far as possible without writing to it. Fails if it is the log, or the
+    /// file that standard output is redirected to.
     fn check_writable(&self, path: &str, log: Option<&str>, is_held: bool) -> io::Result<()>
         ensures { IfErr result (λ _. unwritable self.now path.now) };
 
     /// Returns the number of the copy that an interrupted write left beside a file, if any.
     fn leftover_copy(&self, path: &str) -> Option<u64>;
 
-    /// Writes a whole file in place. Fails if it is the log.
+    /// Writes a whole file. A file that exists is overwritten in place. Fails if it is the log, or the file that
+    /// standard output is redirected to.
     fn write(
         &mut self,
         path: &str,
@@ -110,7 +112,7 @@ pub const LOCKED_REASON: &str = "another program has loaded it, and is going to 
 
 /// The reason why a file that doesn't match its checksums can't be loaded. At most 80 bytes.
 pub const DAMAGED_REASON: &str =
-    "its bytes don't match its .hidlog-sum: it is damaged; else remove that file";
+    "its bytes don't match its .hidlog-sum: restore it, or remove the .hidlog-sum";
 
 /// A new file beside another file.
 #[derive(Drop)]
@@ -152,9 +154,9 @@ fn checksum_error(kind: ErrorKind) -> Error {
     match kind {
         ErrorKind::InvalidInput => Error::new(
             kind,
-            "the file of its name and .hidlog-sum has no sums: remove it",
+            "its .hidlog-sum file has no checksums: remove that file",
         ),
-        _ => Error::new(kind, "the file of its name and .hidlog-sum can't be read"),
+        _ => Error::new(kind, "its .hidlog-sum file can't be read"),
     }
 }
 

@@ -1,6 +1,6 @@
 //! The program's environment: files, log, output and error stream.
 ghost use Rattle.std.specs.Prelude.{◌<◌, ◌-◌, ◌^◌, Err};
-ghost use Rattle.hidlog.specs.Model.{Model};
+ghost use Rattle.hidlog.specs.Program.{Model};
 
 use crate::buffered_output::Output;
 use crate::fault::{ErrorDetail, ProgramFault};
@@ -79,7 +79,7 @@ impl<D: Files, L: Logs, O: Output, E: Target> Modeled for Host<D, L, O, E> {
 
 impl<D: Files, L: Logs, O: Output, E: Target> Host<D, L, O, E> {
     ghost use Rattle.hidlog.specs.Commands.{Reports};
-    ghost use Rattle.hidlog.specs.Fault.{exit_status, to_fault_text};
+    ghost use Rattle.hidlog.specs.Program.{exit_status, to_fault_text};
 
     /// Writes an error message, with the reason if errors are explained.
     pub fn report(&mut self, fault: &ProgramFault<'_>, explains: bool)

@@ -1,7 +1,7 @@
 //! The logs that the program reads.
 ghost use Rattle.std.specs.Prelude.{◌≡◌, ℕ, false, List, [], IfOk, IfSome, MatchResult};
 ghost use Rattle.std.specs.Io.KnownBytes.{prepend_known};
-ghost use Rattle.hidlog.specs.Streams.{unread};
+ghost use Rattle.hidlog.specs.Program.{unread};
 
 use crate::buffered_output::{LineBoundaries, Lookahead};
 use crate::recent_bytes::RecentBytes;
@@ -18,7 +18,7 @@ pub trait Logs: Source {
     /// The same log, when it is read a second time.
     type Reread: Source + Drop;
 
-    /// The state of the source after it opened the file at this path, and before the first read.
+    /// Opening the file at this path takes the source from the first state to the second. Nothing was read yet.
     ghost opened: { Self → List ℕ → Self → Type 0 };
 
     /// The file at a path cannot be opened.
@@ -75,7 +75,7 @@ pub enum Stream<I, F> {
 }
 
 impl<I: Read, F: Read> Read for Stream<I, F> {
-    ghost use Rattle.hidlog.specs.Opened.{stream_left};
+    ghost use Rattle.hidlog.specs.Program.{stream_left};
 
     ghost remaining = { λ s. stream_left I.remaining F.remaining s };
 

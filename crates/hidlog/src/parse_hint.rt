@@ -181,7 +181,10 @@ fn expected_in_timed(letter: u8, fields: &[u8], place: usize) -> Expected {
     match skip_front(fields, digits) {
         [b' ', field @ ..] if letter != b't' => expected_in_field(letter, field),
         _ if letter == b't' => (b"expected the end of the line\n", None),
-        _ => (b"expected a space and what comes behind the time\n", None),
+        _ => (
+            b"expected a space and the rest of the line after the time\n",
+            None,
+        ),
     }
 }
 

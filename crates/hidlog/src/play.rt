@@ -2,7 +2,7 @@
 ghost use Rattle.std.specs.Prelude.{◌≡◌, ◌⊎◌, IfErr};
 ghost use Rattle.hidlog.specs.CommandLine.{to_texts};
 ghost use Rattle.hidlog.specs.Commands.{Plays};
-ghost use Rattle.hidlog.specs.Model.{CanFail};
+ghost use Rattle.hidlog.specs.Program.{CanFail};
 
 use crate::buffered_output::Output;
 use crate::check_files::{report_cause, report_note};

@@ -1,10 +1,10 @@
 //! The program, with any implementation of files, log, output and error stream.
 ghost use Rattle.std.specs.Prelude.{◌≡◌, ◌<◌, ◌-◌, ◌^◌, ◌⊎◌, ◌∷◌, ℕ, List, [], false, true, None, Some, Result, IfErr, OnOk, codes};
 ghost use Rattle.clap.specs.Words.{kind_of};
-ghost use Rattle.session_log.specs.Streams.{WritesLogLine};
+ghost use Rattle.session_log.specs.Lines.{WritesLogLine};
 ghost use Rattle.hidlog.specs.CommandLine.{check, show as shown, to_path, to_texts};
-ghost use Rattle.hidlog.specs.Fault.{to_result};
-ghost use Rattle.hidlog.specs.Model.{CanFail};
+ghost use Rattle.hidlog.specs.Program.{to_result};
+ghost use Rattle.hidlog.specs.Program.{CanFail};
 ghost use Rattle.hidlog.specs.Program.{IsWhole};
 ghost use Rattle.session_log.specs.declared.command.ReplayMode.TheVariants.{Check as comparing};
 ghost use Rattle.session_show.specs.declared.detail.Detail.TheVariants.{Fixed as fixed};
@@ -128,8 +128,8 @@ fn show_in<L: Logs, O: Target>(
 }
 
 impl<D: Files, L: Logs, O: Output, E: Target> Host<D, L, O, E> {
-    /// Writes clap's help to the output, or clap's error to standard error. The status is 0 if help was written, or
-    /// else 2.
+    /// Writes clap's help or version to the output, or clap's error to standard error. The status is 0 if the help or
+    /// the version was written, and 2 otherwise.
     fn write_clap_message(&mut self, error: &Error) -> Result<(), u8>
         requires { CanFail ⟦<Self as Modeled>⟧.model self.old }
         ensures status { IfErr result (λ code. (code ≡ 1) ⊎ (code ≡ 2)) }
@@ -247,8 +247,8 @@ impl<D: Files, L: Logs, O: Output, E: Target> Host<D, L, O, E> {
     }
 
     /// Runs the program with these arguments. The first argument is the program's name. The exit status is 1 for an
-    /// error in the log, and 2 for invalid arguments, a snapshot that can't be used, or a failed allocation outside the
-    /// log. The error message is written to standard error, if possible.
+    /// error in the log or a log that can't be opened, and 2 for invalid arguments, a snapshot that can't be used, or a
+    /// failed allocation outside the log. The error message is written to standard error, if possible.
     pub fn run<'a>(&mut self, words: &'a [&'a str]) -> RunOutcome<'a>
         requires { CanFail ⟦<Self as Modeled>⟧.model self.old }
         ensures status { IfErr result.status (λ code. (code ≡ 1) ⊎ (code ≡ 2)) }

@@ -1,7 +1,7 @@
 //! The bytes of a stream that were read last.
 ghost use Rattle.std.specs.Prelude.{◌≡◌, ◌<◌, ◌≤◌, ◌+◌, [], ◌++◌, length, take, drop, min, vec_len, IfOk, OnOk, OnErr};
 ghost use Rattle.std.specs.Io.KnownBytes.{Consumes, Keeps, IsAtEnd, prepend_known};
-ghost use Rattle.hidlog.specs.Streams.{unread};
+ghost use Rattle.hidlog.specs.Program.{unread};
 
 use crate::split::find_byte;
 use std::alloc::{AllocError, Global};
@@ -77,6 +77,7 @@ impl RecentBytes {
     }
 
     /// Consumes up to `most` unread bytes, as many as fit into `out`. Copies them to `out`, and returns their number.
+    #[tactic(auto, using(crate::proofs::Compared::handed_on))]
     pub fn take(&mut self, most: usize, out: &mut [u8]) -> usize
         ensures count { result ≡ min (min (length (unread self.old.held.items self.old.at self.old.end)) (length out.old)) most }
         ensures len { length out.new ≡ length out.old }

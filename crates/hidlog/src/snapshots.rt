@@ -4,9 +4,9 @@ ghost use Rattle.cred_table.specs.declared.row.Row.{Row as AnyRow};
 ghost use Rattle.token_session.specs.Meters.{IsStateAfter, session_of};
 ghost use Rattle.hidlog.specs.CommandLine.{to_path};
 ghost use Rattle.hidlog.specs.Commands.{checked_save_path};
-ghost use Rattle.hidlog.specs.Fault.{to_result, to_fault_text};
+ghost use Rattle.hidlog.specs.Program.{to_result, to_fault_text};
 ghost use Rattle.session_log.specs.Command.{start_with};
-ghost use Rattle.hidlog.specs.Saved.{FailsToOpen, FailsToSave, OpenSource, Saves};
+ghost use Rattle.hidlog.specs.Commands.{FailsToOpen, FailsToSave, OpenSource, Saves};
 
 use crate::fault::ProgramFault;
 use crate::files::{Files, SaveError};

@@ -1,6 +1,6 @@
 //! Output to a terminal: lines truncated at the terminal's width, with colours.
 ghost use Rattle.std.specs.Prelude.{◌≡◌, ◌<◌, ◌-◌, ◌^◌, None, is_none, if◌then◌else◌};
-ghost use Rattle.session_show.specs.Written.{Writes};
+ghost use Rattle.session_show.specs.Shown.{Writes};
 
 use crate::split::{DIGITS, Pieces, count_leading, skip_front};
 use memchr::{memmem, memrchr};

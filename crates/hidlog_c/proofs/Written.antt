@@ -1,20 +1,80 @@
--- What a call that plays a log over a slice into a lent buffer did.
-use Rattle.std.proofs.Common.{◌≡◌, ◌+◌, ◌<◌, ◌≤◌, ℕ, Bool, true, false, List, [], ◌∷◌, ◌++◌, length, take, drop, Option}
-use Rattle.std.proofs.Common.{Some, Result, Ok, Err, OnOk, inl, inr, if◌then◌else◌, ap, ◌∙◌, sym, refl, subst, arith}
-use Rattle.std.proofs.lemmas.List.{append_cancel_right}
-use Rattle.session_log.specs.declared.fault.LogFault.{LogFault, TheVariants.Memory}
-use Rattle.session_log.specs.declared.{command.ReplayMode.ReplayMode, source.SliceIn.SliceIn}
-use Rattle.session_log.specs.declared.fault.LogFault.TheVariants.{BadLine, TooLong, Differs, Read, Write, TooManyLines}
-use Rattle.session_log.specs.Ending.{Ending, Done, Refused, Unread, Unwritten, ending_of, read_fails, write_fails}
+-- A device after lines were played on it, and what a call wrote to a lent buffer.
+use Rattle.std.proofs.Common.{◌≡◌, ◌≤◌, ◌++◌, ℕ, ℤ, pos, List, [], length, take, drop, Some, Result, Ok, Err, to_z}
+use Rattle.std.proofs.Common.{w32, refl, arith, sym, ap, ◌∙◌, append_assoc, length-append, length-drop}
+use Rattle.std.proofs.Common.{length-take-le, take-append-drop, ◌+◌, ◌<◌, Bool, true, false, ◌∷◌, Option, OnOk, inl}
+use Rattle.std.proofs.Common.{inr, if◌then◌else◌, subst}
+use Rattle.std.proofs.lemmas.Int.{to_z_pos}
+use Rattle.std.proofs.lemmas.List.{drop-append-le, append_cancel_right}
+use Rattle.session_log.specs.declared.fault.LogFault.{LogFault}
+use Rattle.token_session.specs.Meters.{SessionState}
+use Rattle.token_session.specs.declared.cause.Causes.{Causes as TwoCauses}
+use Rattle.hidlog_c.specs.declared.outcome.CResult.{CResult}
+use Rattle.hidlog_c.specs.Changed.{SavesLen}
+use Rattle.hidlog_c.specs.Key.{DeviceState, no_causes}
+use Rattle.hidlog_c.specs.Commands.{ArePlayed, PlaysOn}
+use Rattle.hidlog_c.specs.Commands.{to_c_result}
+use Rattle.session_log.specs.declared.fault.LogFault.TheVariants.{Memory, BadLine, TooLong, Differs, Read, Write}
+use Rattle.session_log.specs.declared.fault.LogFault.TheVariants.{TooManyLines}
+use Rattle.session_log.specs.declared.command.ReplayMode.{ReplayMode}
+use Rattle.session_log.specs.declared.source.SliceIn.{SliceIn}
+use Rattle.session_log.specs.Replay.{Ending, Done, Refused, Unread, Unwritten, ending_of, read_fails, write_fails}
 use Rattle.session_log.specs.Replay.{ReadsUpToEnding, IsFaultOfLinesRead, PlaysWholeLog, ReadsUpToFault, ReadsTo}
 use Rattle.cred_table.specs.declared.row.Row.{Row}
 use Rattle.session_log.specs.Check.{Compared, first_comparison, check_history}
-use Rattle.session_log.specs.{Command.IsCounted, Command.PlaysLog, World.LineSemantics, Streams.IsAtEndOfInput, Streams.ReadsAndWrites}
-use Rattle.session_log.specs.Session.{history, live_history, quiet_history}
+use Rattle.session_log.specs.Command.{IsCounted, PlaysLog}
+use Rattle.session_log.specs.World.{LineSemantics}
+use Rattle.session_log.specs.Lines.{IsAtEndOfInput, ReadsAndWrites}
+use Rattle.session_log.specs.Replay.{history, live_history, quiet_history}
 use Rattle.session_log.specs.declared.command.ReplayMode.TheVariants.{Check, Live, Quiet, Replay}
-use Rattle.token_session.specs.{Meters.SessionState, declared.input.Timed.Timed}
+use Rattle.token_session.specs.declared.input.Timed.{Timed}
 use Rattle.hidlog_c.specs.Commands.{IsWritten, PlaysSlice, PlaysSliceIn}
-use Rattle.hidlog_c.specs.{declared.buffer_target.BufferTarget.BufferTarget, Switched.start_with}
+use Rattle.hidlog_c.specs.declared.buffer_target.BufferTarget.{BufferTarget}
+use Rattle.hidlog_c.specs.Key.{start_with}
+
+-- ---- a device after lines were played on it, and after a snapshot of it was written
+
+-- the status of an outcome is a small number
+status_small : (answer : Result (Unit {0}) LogFault) (outcome : CResult) (written : ℕ)
+    → outcome ≡ to_c_result answer written → outcome.status ≤ 1
+status_small (Ok x) outcome written is = let e = ap (λ (o : CResult). o.status) is in omega (arith, e)
+status_small (Err f) outcome written is = let e = ap (λ (o : CResult). o.status) is in omega (arith, e)
+
+pub status_as : (s t : SessionState) (log out : List ℕ) (outcome : CResult) → ArePlayed s t log out outcome
+    → to_z w32 outcome.status ≡ pos outcome.status
+status_as s t log out outcome played =
+    let small = status_small played.0 outcome outcome.written played.1 in
+    to_z_pos w32 outcome.status (omega (arith, small))
+
+-- what lines do, they do to the device in which the session is
+pub plays_on : (aaguid : List ℕ) (s t : SessionState) (waiting : List (List ℕ)) (causes : TwoCauses) (log : List ℕ)
+    (out : List ℕ × List ℕ) (outcome : CResult × CResult) (result : ℤ) → waiting ≡ [] → ArePlayed s t log out.1 outcome.1
+    → result ≡ pos outcome.1.status
+    → PlaysOn (record { aaguid = aaguid; session = s; waiting = waiting; causes = causes }) waiting
+    (Some (record { aaguid = aaguid; session = t; waiting = waiting; causes = no_causes })) log out outcome result
+plays_on aaguid s t waiting causes log out outcome result none played answer = rw none (t, refl, played, answer)
+
+-- a snapshot in the first bytes of a buffer is in its front
+pub saves_len : (n : ℕ) (d : DeviceState) (out front : List ℕ) (len : ℕ) → n ≤ length out → length front ≡ n
+    → SavesLen d (take n out, front) len → SavesLen d (out, front ++ drop n out) len
+saves_len n d out front len within sized (rows, has, (space, saved, snapshot, is, new)) =
+    let all = length-take-le n out within in
+    let parts = ap length new ∙ length-append saved (drop len (take n out)) in
+    let left = length-drop len (take n out) in
+    let short : len ≤ length (take n out) = omega (arith, sized, all, parts, left, is) in (
+      rows,
+      has,
+      (
+        omega (arith, space, all, within),
+        saved,
+        snapshot,
+        is,
+        ap (λ x. x ++ drop n out) new ∙ append_assoc saved (drop len (take n out)) (drop n out)
+            ∙ ap (λ x. saved ++ x)
+            (sym (drop-append-le len (take n out) (drop n out) short) ∙ ap (drop len) (take-append-drop n out)),
+      ),
+    )
+
+-- ---- what a call that plays a log over a slice into a lent buffer did
 
 -- to what begins with the name of a borrow a text was appended
 appended : (old new : ℕ) (none front text : List ℕ) → none ≡ [] → new ∷ front ≡ (old ∷ none) ++ text → front ≡ text

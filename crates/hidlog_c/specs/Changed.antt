@@ -3,11 +3,11 @@ use Rattle.std.specs.Prelude.{◌≡◌, ◌≢◌, ◌⊎◌, ◌<◌, ◌≤�
 use Rattle.std.specs.{Prelude.None, Prelude.is_some, List.find, Str.IsUtf8}
 use Rattle.authn_core.specs.Views.{needs, nothing}
 use Rattle.cred_table.specs.{declared.row.Row.Row, Snapshots.clashes, Rows.has_id, Rows.without}
-use Rattle.cred_table.specs.Saving.{SavesInto, max_snapshot_len}
+use Rattle.cred_table.specs.Snapshots.{SavesInto, max_snapshot_len}
 use Rattle.hidlog_c.specs.declared.{capacity.TheConstants.CAPACITY, structs.Credential.Credential}
 use Rattle.hidlog_c.specs.declared.fault.TheConstants.{ERR_NOT_INITIALIZED, ERR_PACKETS_QUEUED, ERR_INVALID_ARGUMENT, ERR_BUFFER_TOO_SMALL, ERR_BUSY}
 use Rattle.hidlog_c.specs.declared.fault.TheConstants.{ERR_DUPLICATE_USER, ERR_FULL}
-use Rattle.hidlog_c.specs.{Key.DeviceState, Reports.bit, Switched.IsStarted}
+use Rattle.hidlog_c.specs.{Key.DeviceState, Reports.bit, Key.IsStarted}
 
 -- The device's table has these rows.
 abbrev pub HasRows : DeviceState → List Row → Type 0

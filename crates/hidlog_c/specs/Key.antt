@@ -1,10 +1,28 @@
--- A key in C: its state before and after a call, and the call's return value.
-use Rattle.std.specs.Prelude.{◌≡◌, ℕ, ℤ, pos, List, [], ◌∷◌, length, Option, Some, None}
+-- A key in C: its state before and after a call, and the return value of the call.
+use Rattle.std.specs.Prelude.{◌≡◌, ℕ, ℤ, pos, List, [], ◌∷◌, length, Option, Some, None, Ok, ◌&&◌, nat_eq, nat_le}
+use Rattle.std.specs.Prelude.{if◌then◌else◌, ◌≢◌, ◌⊎◌, replicate}
 use Rattle.authn_core.specs.Turn.{Start}
-use Rattle.token_session.specs.{declared.input.Timed.Timed, Answered.packets_sent_now}
+use Rattle.token_session.specs.declared.input.Timed.{Timed}
+use Rattle.token_session.specs.Answered.{packets_sent_now}
 use Rattle.token_session.specs.Meters.{SessionState, IsStateAfterValidStart, stepped, input_packets_of}
-use Rattle.token_session.specs.{Causes.causes_of, declared.cause.Causes.Causes as TwoCauses}
+use Rattle.token_session.specs.History.{causes_of}
+use Rattle.token_session.specs.declared.cause.Causes.{Causes as TwoCauses}
 use Rattle.hidlog_c.specs.declared.fault.TheConstants.{ERR_NOT_INITIALIZED, ERR_PACKETS_QUEUED, ERR_NO_PACKET}
+use Rattle.hidlog_c.specs.declared.fault.TheConstants.{ERR_INVALID_ARGUMENT, ERR_ALREADY_INITIALIZED}
+use Rattle.hidlog_c.specs.declared.fault.TheConstants.{ERR_NOT_A_SNAPSHOT, ERR_FULL, ERR_BAD_CREDENTIAL, NO_MEMORY}
+use Rattle.cred_table.specs.declared.row.Row.{Row}
+use Rattle.cred_table.specs.Snapshots.{Refuses}
+use Rattle.hidlog_c.specs.declared.capacity.TheConstants.{CAPACITY}
+use Rattle.authn_core.specs.declared.replies.Presence.{Presence as Reply}
+use Rattle.authn_core.specs.declared.replies.Presence.TheVariants.{Granted, Denied, TimedOut}
+use Rattle.token_session.specs.declared.input.Input.{Input}
+use Rattle.token_session.specs.declared.input.Input.TheVariants.{Signature}
+use Rattle.cred_table.specs.declared.fault.SnapshotFault.{SnapshotFault}
+use Rattle.cred_table.specs.declared.fault.SnapshotFault.TheVariants.{NotSnapshot, TooMany, RowBroken}
+use Rattle.cred_table.specs.declared.fault.SnapshotFault.TheVariants.{Memory as OutOfMemory}
+use Rattle.hidlog_c.specs.Begin.{IsSnapshotOrEmpty}
+
+-- ---- the state, and its changes
 
 -- A device: the authenticator's AAGUID, its session, its queued packets, and the causes for which its last input was
 -- refused.
@@ -96,3 +114,65 @@ pub record ReadsPacket (before after : Option DeviceState) (packet : List ℕ ×
   pub state : after ≡ device_after_read before
   pub packet_is : packet.1 ≡ first_packet_or packet.0 (queued_packets_of before)
   pub return_value : result ≡ read_return_value before
+
+-- ---- arguments of C calls as inputs of the session
+
+-- The user presence reply for a number of enum hidlog_presence.
+abbrev pub parsed_presence_number : ℕ → Option Reply
+parsed_presence_number n =
+    if nat_eq n 0 then Some Granted else if nat_eq n 1 then Some Denied else if nat_eq n 2 then Some TimedOut else None
+
+-- A signature input of 1 to 72 bytes, or None for any other length.
+abbrev pub signature_input : List ℕ → Option Input
+signature_input bytes =
+    if nat_le 1 (length bytes) && nat_le (length bytes) 72 then Some (Signature (Some bytes)) else None
+
+-- The error number of a call with an invalid argument.
+abbrev pub refusal_of : Option DeviceState → ℤ
+refusal_of None = ERR_NOT_INITIALIZED
+refusal_of (Some d) = ERR_INVALID_ARGUMENT
+
+-- The effect of a call whose argument may be invalid (None). In that case the call returns an error, and the key is not
+-- changed.
+abbrev pub TakesCheckedInput : (before after : Option DeviceState) → (at : ℕ) → Option Input → ℤ → Type 0
+TakesCheckedInput before after at None result = (after ≡ before) × (result ≡ refusal_of before)
+TakesCheckedInput before after at (Some input) result = TakesInput before after (record { at = at; input = input }) result
+
+-- ---- initializing a key
+
+-- The start of a session with the capacity of this library.
+abbrev pub start_of : (aaguid : List ℕ) → (moment : ℕ) → List Row → Start
+start_of aaguid moment rows = record { aaguid = aaguid; moment = moment; capacity = CAPACITY; rows = rows }
+
+-- The start of a command's session: an AAGUID of sixteen zero bytes, time 0, and these credentials.
+abbrev pub start_with : List Row → Start
+start_with rows = start_of (replicate 16 0) 0 rows
+
+-- The error number of a rejected snapshot.
+abbrev pub refusal : SnapshotFault → ℤ
+refusal NotSnapshot = ERR_NOT_A_SNAPSHOT
+refusal TooMany = ERR_FULL
+refusal (RowBroken place) = ERR_BAD_CREDENTIAL
+refusal OutOfMemory = NO_MEMORY
+
+-- The device has a new session with these credentials, and neither queued packets nor causes.
+abbrev pub IsStarted : DeviceState → (aaguid : List ℕ) → (moment : ℕ) → List Row → Type 0
+IsStarted d aaguid moment rows =
+    (d.aaguid ≡ aaguid) × (d.waiting ≡ []) × (d.causes ≡ no_causes) × IsStateAfterValidStart d.session (start_of aaguid moment rows) []
+
+-- The key has a new session with the credentials of the snapshot.
+abbrev pub Begins : (aaguid : List ℕ) → (moment : ℕ) → (snapshot : List ℕ) → Option DeviceState → Type 0
+Begins aaguid moment snapshot after = (rows : List Row) × (d : DeviceState) × IsSnapshotOrEmpty snapshot rows
+    × (after ≡ Some d) × IsStarted d aaguid moment rows
+
+-- The snapshot is rejected, and the key is not initialized.
+abbrev pub IsRefused : (snapshot : List ℕ) → Option DeviceState → ℤ → Type 0
+IsRefused snapshot after result = (fault : SnapshotFault) × (snapshot ≢ []) × Refuses CAPACITY snapshot fault
+    × (after ≡ None) × (result ≡ refusal fault)
+
+-- The effect of initializing a key. An initialized key is not changed.
+abbrev pub Initializes : (before after : Option DeviceState) → (aaguid : List ℕ) → (moment : ℕ) → (snapshot : List ℕ) → ℤ
+    → Type 0
+Initializes (Some d) after aaguid moment snapshot result = (after ≡ Some d) × (result ≡ ERR_ALREADY_INITIALIZED)
+Initializes None after aaguid moment snapshot result =
+    (Begins aaguid moment snapshot after × (result ≡ pos 0)) ⊎ IsRefused snapshot after result

@@ -5,14 +5,14 @@ ghost use Rattle.token_session.specs.declared.input.Input.TheVariants as inputs;
 ghost use prog.Memory.{capped, size};
 ghost use denote.Param.{layout};
 ghost use Rattle.hidlog_c.specs.contracts.device.Device.{the_row as device_row};
-ghost use Rattle.hidlog_c.specs.Causes.{ReportsCause};
-ghost use Rattle.hidlog_c.specs.Held.{held};
+ghost use Rattle.hidlog_c.specs.Reports.{ReportsCause};
+ghost use Rattle.hidlog_c.specs.Held.{device_of};
 ghost use Rattle.hidlog_c.specs.Changed.{Adds, Clears, Removes, SavesKey};
 ghost use Rattle.hidlog_c.specs.Key.{TakesInput, ReadsPacket};
-ghost use Rattle.hidlog_c.specs.Words.{TakesCheckedInput, parsed_presence_number, signature_input};
-ghost use Rattle.hidlog_c.specs.Lines.{ReplaysLines};
+ghost use Rattle.hidlog_c.specs.Key.{TakesCheckedInput, parsed_presence_number, signature_input};
+ghost use Rattle.hidlog_c.specs.Commands.{ReplaysLines};
 ghost use Rattle.hidlog_c.specs.Reports.{ReportsCredential, ReportsMeters, ReportsNeed, count_or, credential_count, pending_assertions, waiting_packets};
-ghost use Rattle.hidlog_c.specs.Switched.{Initializes};
+ghost use Rattle.hidlog_c.specs.Key.{Initializes};
 
 use crate::capacity::CAPACITY;
 use crate::causes::CauseReport;
@@ -66,7 +66,7 @@ pub extern "C" fn hidlog_key_init(
     at: u64,
     snapshot: &[u8],
 ) -> i32
-    ensures { Initializes (held key.old) (held key.new) aaguid.now at snapshot.now result }
+    ensures { Initializes (device_of key.old) (device_of key.new) aaguid.now at snapshot.now result }
 {
     if key.is_initialized() {
         return ERR_ALREADY_INITIALIZED;
@@ -83,7 +83,7 @@ pub extern "C" fn hidlog_key_init(
 /// Advances the time to `at`, in milliseconds. Returns the number of packets that are queued for sending.
 #[unsafe(no_mangle)]
 pub extern "C" fn hidlog_key_tick(key: &mut KeyHandle, at: u64) -> i32
-    ensures { TakesInput (held key.old) (held key.new) (record { at = at; input = inputs.Tick }) result }
+    ensures { TakesInput (device_of key.old) (device_of key.new) (record { at = at; input = inputs.Tick }) result }
 {
     key.process_input(at, Input::Tick)
 }
@@ -92,7 +92,7 @@ pub extern "C" fn hidlog_key_tick(key: &mut KeyHandle, at: u64) -> i32
 /// sending.
 #[unsafe(no_mangle)]
 pub extern "C" fn hidlog_key_write_packet(key: &mut KeyHandle, at: u64, packet: &[u8; 64]) -> i32
-    ensures { TakesInput (held key.old) (held key.new)
+    ensures { TakesInput (device_of key.old) (device_of key.new)
         (record { at = at; input = inputs.Packet (record { 0 = packet.now }) }) result }
 {
     key.process_input(at, Input::Packet(Packet(*packet)))
@@ -101,7 +101,7 @@ pub extern "C" fn hidlog_key_write_packet(key: &mut KeyHandle, at: u64, packet: 
 /// Removes the next queued packet, and copies it to `packet`. Returns the number of packets that remain.
 #[unsafe(no_mangle)]
 pub extern "C" fn hidlog_key_read_packet(key: &mut KeyHandle, packet: &mut [u8; 64]) -> i32
-    ensures { ReadsPacket (held key.old) (held key.new) (packet.old, packet.new) result }
+    ensures { ReadsPacket (device_of key.old) (device_of key.new) (packet.old, packet.new) result }
 {
     key.next(packet)
 }
@@ -109,7 +109,7 @@ pub extern "C" fn hidlog_key_read_packet(key: &mut KeyHandle, packet: &mut [u8; 
 /// Provides the user presence reply: 0 granted, 1 denied, 2 timed out.
 #[unsafe(no_mangle)]
 pub extern "C" fn hidlog_key_provide_presence(key: &mut KeyHandle, at: u64, presence: u32) -> i32
-    ensures { TakesCheckedInput (held key.old) (held key.new) at (option_map inputs.Presence (parsed_presence_number presence)) result }
+    ensures { TakesCheckedInput (device_of key.old) (device_of key.new) at (option_map inputs.Presence (parsed_presence_number presence)) result }
 {
     match parsed_presence_number(presence) {
         Some(presence) => key.process_input(at, Input::Presence(presence)),
@@ -126,7 +126,7 @@ pub extern "C" fn hidlog_key_provide_key_pair(
     x: &[u8; 32],
     y: &[u8; 32],
 ) -> i32
-    ensures { TakesInput (held key.old) (held key.new)
+    ensures { TakesInput (device_of key.old) (device_of key.new)
         (record { at = at; input = inputs.Key (Some (record { id = id.now; x = x.now; y = y.now })) }) result }
 {
     let new_key = NewKey {
@@ -140,7 +140,7 @@ pub extern "C" fn hidlog_key_provide_key_pair(
 /// Refuses a key pair.
 #[unsafe(no_mangle)]
 pub extern "C" fn hidlog_key_refuse_key_pair(key: &mut KeyHandle, at: u64) -> i32
-    ensures { TakesInput (held key.old) (held key.new) (record { at = at; input = inputs.Key None }) result }
+    ensures { TakesInput (device_of key.old) (device_of key.new) (record { at = at; input = inputs.Key None }) result }
 {
     key.process_input(at, Input::Key(None))
 }
@@ -152,7 +152,7 @@ pub extern "C" fn hidlog_key_provide_signature(
     at: u64,
     signature: &[u8],
 ) -> i32
-    ensures { TakesCheckedInput (held key.old) (held key.new) at (signature_input signature.now) result }
+    ensures { TakesCheckedInput (device_of key.old) (device_of key.new) at (signature_input signature.now) result }
 {
     match Signature::new(signature) {
         Some(signature) => key.process_input(at, Input::Signature(Some(signature))),
@@ -163,7 +163,7 @@ pub extern "C" fn hidlog_key_provide_signature(
 /// Refuses a signature.
 #[unsafe(no_mangle)]
 pub extern "C" fn hidlog_key_refuse_signature(key: &mut KeyHandle, at: u64) -> i32
-    ensures { TakesInput (held key.old) (held key.new) (record { at = at; input = inputs.Signature None }) result }
+    ensures { TakesInput (device_of key.old) (device_of key.new) (record { at = at; input = inputs.Signature None }) result }
 {
     key.process_input(at, Input::Signature(None))
 }
@@ -176,7 +176,7 @@ pub extern "C" fn hidlog_key_replay_lines(
     out: &mut [u8],
     outcome: &mut CResult,
 ) -> i32
-    ensures { ReplaysLines (held key.old) (held key.new) log.now (out.old, out.new) (outcome.old, outcome.new) result }
+    ensures { ReplaysLines (device_of key.old) (device_of key.new) log.now (out.old, out.new) (outcome.old, outcome.new) result }
 {
     key.play(log, out, outcome)
 }
@@ -184,8 +184,8 @@ pub extern "C" fn hidlog_key_replay_lines(
 /// Returns the number of queued packets.
 #[unsafe(no_mangle)]
 pub extern "C" fn hidlog_key_queued_packets(key: &mut KeyHandle) -> i32
-    ensures same { held key.new ≡ held key.old }
-    ensures count { result ≡ count_or waiting_packets (held key.old) }
+    ensures same { device_of key.new ≡ device_of key.old }
+    ensures count { result ≡ count_or waiting_packets (device_of key.old) }
 {
     key.waiting()
 }
@@ -193,8 +193,8 @@ pub extern "C" fn hidlog_key_queued_packets(key: &mut KeyHandle) -> i32
 /// Stores what the key needs from its caller, and returns the number of its kind.
 #[unsafe(no_mangle)]
 pub extern "C" fn hidlog_key_get_need(key: &mut KeyHandle, need: &mut CNeed) -> i32
-    ensures same { held key.new ≡ held key.old }
-    ensures need { ReportsNeed (held key.old) (need.old, need.new) result }
+    ensures same { device_of key.new ≡ device_of key.old }
+    ensures need { ReportsNeed (device_of key.old) (need.old, need.new) result }
 {
     key.need(need)
 }
@@ -209,8 +209,8 @@ pub extern "C" fn hidlog_key_cause(
     cause: &mut CauseReport,
     out: &mut [u8],
 ) -> i32
-    ensures same { held key.new ≡ held key.old }
-    ensures cause { ReportsCause (held key.old) which (cause.old, cause.new) (out.old, out.new) result }
+    ensures same { device_of key.new ≡ device_of key.old }
+    ensures cause { ReportsCause (device_of key.old) which (cause.old, cause.new) (out.old, out.new) result }
 {
     key.cause(which, cause, out)
 }
@@ -218,8 +218,8 @@ pub extern "C" fn hidlog_key_cause(
 /// Returns the number of credentials.
 #[unsafe(no_mangle)]
 pub extern "C" fn hidlog_key_credential_count(key: &mut KeyHandle) -> i32
-    ensures same { held key.new ≡ held key.old }
-    ensures count { result ≡ count_or credential_count (held key.old) }
+    ensures same { device_of key.new ≡ device_of key.old }
+    ensures count { result ≡ count_or credential_count (device_of key.old) }
 {
     key.credentials()
 }
@@ -231,8 +231,8 @@ pub extern "C" fn hidlog_key_get_credential(
     place: usize,
     credential: &mut Credential,
 ) -> i32
-    ensures same { held key.new ≡ held key.old }
-    ensures credential { ReportsCredential (held key.old) place (credential.old, credential.new) result }
+    ensures same { device_of key.new ≡ device_of key.old }
+    ensures credential { ReportsCredential (device_of key.old) place (credential.old, credential.new) result }
 {
     key.credential(place, credential)
 }
@@ -240,8 +240,8 @@ pub extern "C" fn hidlog_key_get_credential(
 /// Returns the number of assertions pending for authenticatorGetNextAssertion.
 #[unsafe(no_mangle)]
 pub extern "C" fn hidlog_key_pending_assertions(key: &mut KeyHandle) -> i32
-    ensures same { held key.new ≡ held key.old }
-    ensures count { result ≡ count_or pending_assertions (held key.old) }
+    ensures same { device_of key.new ≡ device_of key.old }
+    ensures count { result ≡ count_or pending_assertions (device_of key.old) }
 {
     key.pending()
 }
@@ -249,20 +249,20 @@ pub extern "C" fn hidlog_key_pending_assertions(key: &mut KeyHandle) -> i32
 /// Stores the statistics of the session.
 #[unsafe(no_mangle)]
 pub extern "C" fn hidlog_key_get_stats(key: &mut KeyHandle, meters: &mut CStats) -> i32
-    ensures same { held key.new ≡ held key.old }
-    ensures meters { ReportsMeters (held key.old) (meters.old, meters.new) result }
+    ensures same { device_of key.new ≡ device_of key.old }
+    ensures meters { ReportsMeters (device_of key.old) (meters.old, meters.new) result }
 {
     key.meters(meters)
 }
 
-/// Adds a credential. A credential with the same ID is replaced. Begins a new session at time `at`.
+/// Appends a credential. An earlier credential with the same ID is removed. Begins a new session at time `at`.
 #[unsafe(no_mangle)]
 pub extern "C" fn hidlog_key_add_credential(
     key: &mut KeyHandle,
     at: u64,
     credential: &Credential,
 ) -> i32
-    ensures { Adds (held key.old) (held key.new) at credential.now result }
+    ensures { Adds (device_of key.old) (device_of key.new) at credential.now result }
 {
     key.add(at, credential)
 }
@@ -270,7 +270,7 @@ pub extern "C" fn hidlog_key_add_credential(
 /// Removes the credential with this ID. Begins a new session at time `at`.
 #[unsafe(no_mangle)]
 pub extern "C" fn hidlog_key_remove_credential(key: &mut KeyHandle, at: u64, id: &[u8; 32]) -> i32
-    ensures { Removes (held key.old) (held key.new) at id.now result }
+    ensures { Removes (device_of key.old) (device_of key.new) at id.now result }
 {
     key.remove(at, id)
 }
@@ -278,7 +278,7 @@ pub extern "C" fn hidlog_key_remove_credential(key: &mut KeyHandle, at: u64, id:
 /// Removes all credentials. Begins a new session at time `at`.
 #[unsafe(no_mangle)]
 pub extern "C" fn hidlog_key_clear_credentials(key: &mut KeyHandle, at: u64) -> i32
-    ensures { Clears (held key.old) (held key.new) at result }
+    ensures { Clears (device_of key.old) (device_of key.new) at result }
 {
     key.clear(at)
 }
@@ -286,8 +286,8 @@ pub extern "C" fn hidlog_key_clear_credentials(key: &mut KeyHandle, at: u64) -> 
 /// Writes a snapshot of the credentials to the start of `out`, and returns the snapshot's length.
 #[unsafe(no_mangle)]
 pub extern "C" fn hidlog_key_save_snapshot(key: &mut KeyHandle, out: &mut [u8]) -> i32
-    ensures same { held key.new ≡ held key.old }
-    ensures saves { SavesKey (held key.old) (out.old, out.new) result }
+    ensures same { device_of key.new ≡ device_of key.old }
+    ensures saves { SavesKey (device_of key.old) (out.old, out.new) result }
 {
     key.save(out)
 }
@@ -295,8 +295,8 @@ pub extern "C" fn hidlog_key_save_snapshot(key: &mut KeyHandle, out: &mut [u8]) 
 /// Destroys the key. The caller may use its memory again.
 #[unsafe(no_mangle)]
 pub extern "C" fn hidlog_key_destroy(key: &mut KeyHandle) -> i32
-    ensures none { held key.new ≡ None }
-    ensures made { result ≡ count_or (λ d. 0) (held key.old) }
+    ensures none { device_of key.new ≡ None }
+    ensures made { result ≡ count_or (λ d. 0) (device_of key.old) }
 {
     if !key.is_initialized() {
         return ERR_NOT_INITIALIZED;

@@ -1,6 +1,6 @@
 //! Why a key refused its last input, as a C struct and as a sentence.
 ghost use Rattle.std.specs.Prelude.{◌≡◌, ◌≤◌, ◌<◌, length};
-ghost use Rattle.hidlog_c.specs.Causes.{cause_at, report_of, request_report, command_report, transport_report, parsed_which};
+ghost use Rattle.hidlog_c.specs.Reports.{cause_at, report_of, request_report, command_report, transport_report, parsed_which};
 
 use authn_core::Refusal;
 use ctap_cbor::Fault;

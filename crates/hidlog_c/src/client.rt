@@ -9,7 +9,7 @@ use webauthn_client::{
 #[repr(C)]
 #[derive(Clone, Copy)]
 pub struct ClientReport {
-    /// The timeout in the options, in milliseconds.
+    /// The timeout of the request in milliseconds: that of the options, or the client's default.
     pub timeout_ms: u32,
     /// Whether the user is verified, so that the UV flag of the response must be set: 0 or 1.
     pub is_verified: u32,

@@ -3,7 +3,7 @@ ghost use Rattle.std.specs.Prelude.{◌≡◌, [], List, ℕ, take, Option};
 ghost use Rattle.cred_table.specs.declared.row.Row.{Row as AnyRow};
 ghost use Rattle.token_session.specs.Meters.{IsStateAfter, session_of};
 ghost use Rattle.hidlog_c.specs.Commands.{RunsCommand, IsWritten, PlaysSlice};
-ghost use Rattle.hidlog_c.specs.Switched.{start_with};
+ghost use Rattle.hidlog_c.specs.Key.{start_with};
 
 use crate::buffer_target::BufferTarget;
 use crate::capacity::CAPACITY;

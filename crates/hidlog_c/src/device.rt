@@ -7,10 +7,10 @@ ghost use Rattle.std.specs.List.{find};
 ghost use Rattle.cred_table.specs.Rows.{has_id, without};
 ghost use Rattle.cred_table.specs.Snapshots.{Loads, Refuses};
 ghost use Rattle.hidlog_c.specs.Changed.{Adds, Clears, HasRows, IsBusy, IsIdle, SavesLen, Removes, SavesRows};
-ghost use Rattle.hidlog_c.specs.Causes.{ReportsCause};
+ghost use Rattle.hidlog_c.specs.Reports.{ReportsCause};
 ghost use Rattle.hidlog_c.specs.Key.{TakesInput, ReadsPacket};
-ghost use Rattle.hidlog_c.specs.Lines.{ReplaysLines};
-ghost use Rattle.hidlog_c.specs.Switched.{IsStarted};
+ghost use Rattle.hidlog_c.specs.Commands.{ReplaysLines};
+ghost use Rattle.hidlog_c.specs.Key.{IsStarted};
 ghost use Rattle.hidlog_c.specs.Reports.{ReportsRow, credential_count, to_c_stats, to_c_need, pending_assertions, waiting_packets};
 
 use crate::capacity::{CAPACITY, SNAPSHOT_MAX_LEN};
@@ -219,7 +219,7 @@ impl Device {
         (rows, table.find(id).is_some())
     }
 
-    /// Adds a credential, and begins a new session. A credential with the same ID is replaced.
+    /// Appends a credential, and begins a new session. An earlier credential with the same ID is removed.
     pub fn add(&mut self, at: u64, credential: &Credential) -> i32
         ensures { Adds (Some self.old) (Some self.new) at credential.now result }
     {

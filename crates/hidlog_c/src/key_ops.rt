@@ -1,13 +1,13 @@
 //! The operations of a key, which return an error if the key is not initialized.
 ghost use Rattle.std.specs.Prelude.{◌≡◌, ◌≢◌, [], None, Some, IfErr, OnOk, is_some};
 ghost use Rattle.cred_table.specs.Snapshots.{Refuses};
-ghost use Rattle.hidlog_c.specs.Causes.{ReportsCause};
-ghost use Rattle.hidlog_c.specs.Held.{held};
+ghost use Rattle.hidlog_c.specs.Reports.{ReportsCause};
+ghost use Rattle.hidlog_c.specs.Held.{device_of};
 ghost use Rattle.hidlog_c.specs.Changed.{Adds, Clears, Removes, SavesKey};
 ghost use Rattle.hidlog_c.specs.Key.{TakesInput, ReadsPacket};
-ghost use Rattle.hidlog_c.specs.Words.{refusal_of};
-ghost use Rattle.hidlog_c.specs.Lines.{ReplaysLines};
-ghost use Rattle.hidlog_c.specs.Switched.{Begins};
+ghost use Rattle.hidlog_c.specs.Key.{refusal_of};
+ghost use Rattle.hidlog_c.specs.Commands.{ReplaysLines};
+ghost use Rattle.hidlog_c.specs.Key.{Begins};
 ghost use Rattle.hidlog_c.specs.Reports.{ReportsCredential, ReportsMeters, ReportsNeed, count_or, credential_count, pending_assertions, waiting_packets};
 
 use crate::capacity::CAPACITY;
@@ -23,24 +23,24 @@ use token_session::Input;
 impl KeyHandle {
     /// Returns whether the key is initialized.
     pub fn is_initialized(&self) -> bool
-        ensures { result ≡ is_some (held self.now) }
+        ensures { result ≡ is_some (device_of self.now) }
     {
         self.state == STATE_INITIALIZED
     }
 
     /// Initializes the key with a device that powers up at time `at`, with the credentials of the snapshot. An empty
     /// snapshot means no credentials. Fails if the key is initialized or the snapshot is rejected. The snapshot is
-    /// loaded into the device in place, because moving a device copies its 39 kB.
+    /// loaded into the device in place, because moving a device copies it (41 kB with 64 credentials).
     pub fn initialize(
         &mut self,
         aaguid: [u8; 16],
         at: u64,
         snapshot: &[u8],
     ) -> Result<(), SnapshotFault>
-        requires { held self.old ≡ None }
-        ensures made { OnOk result (Begins aaguid at snapshot.now (held self.new)) }
+        requires { device_of self.old ≡ None }
+        ensures made { OnOk result (Begins aaguid at snapshot.now (device_of self.new)) }
         ensures refused { IfErr result (λ fault. (snapshot.now ≢ []) × Refuses CAPACITY snapshot.now fault) }
-        ensures unmade { IfErr result (λ _. held self.new ≡ None) }
+        ensures unmade { IfErr result (λ _. device_of self.new ≡ None) }
     {
         let device = Device::bare(aaguid, at);
         if self.state == STATE_ZERO {
@@ -58,7 +58,7 @@ impl KeyHandle {
 
     /// Destroys the device.
     pub fn destroy(&mut self)
-        ensures { held self.new ≡ None }
+        ensures { device_of self.new ≡ None }
     {
         if self.state == STATE_INITIALIZED {
             self.state = STATE_DESTROYED;
@@ -68,7 +68,7 @@ impl KeyHandle {
     /// Processes an input. Returns the number of packets queued for sending. If packets were queued before, returns an
     /// error and doesn't process the input.
     pub fn process_input(&mut self, at: u64, input: Input) -> i32
-        ensures { TakesInput (held self.old) (held self.new) (record { at = at; input = input }) result }
+        ensures { TakesInput (device_of self.old) (device_of self.new) (record { at = at; input = input }) result }
     {
         if !self.is_initialized() {
             return ERR_NOT_INITIALIZED;
@@ -78,7 +78,7 @@ impl KeyHandle {
 
     /// Returns the error for an invalid argument.
     pub fn refuse(&self) -> i32
-        ensures { result ≡ refusal_of (held self.now) }
+        ensures { result ≡ refusal_of (device_of self.now) }
     {
         if self.is_initialized() {
             ERR_INVALID_ARGUMENT
@@ -89,7 +89,7 @@ impl KeyHandle {
 
     /// Removes the next queued packet, and copies it to `packet`.
     pub fn next(&mut self, packet: &mut [u8; 64]) -> i32
-        ensures { ReadsPacket (held self.old) (held self.new) (packet.old, packet.new) result }
+        ensures { ReadsPacket (device_of self.old) (device_of self.new) (packet.old, packet.new) result }
     {
         if !self.is_initialized() {
             return ERR_NOT_INITIALIZED;
@@ -99,7 +99,7 @@ impl KeyHandle {
 
     /// Plays lines of a log. If packets are queued, returns an error instead.
     pub fn play(&mut self, log: &[u8], out: &mut [u8], outcome: &mut CResult) -> i32
-        ensures { ReplaysLines (held self.old) (held self.new) log.now (out.old, out.new) (outcome.old, outcome.new) result }
+        ensures { ReplaysLines (device_of self.old) (device_of self.new) log.now (out.old, out.new) (outcome.old, outcome.new) result }
     {
         if !self.is_initialized() {
             return ERR_NOT_INITIALIZED;
@@ -109,8 +109,8 @@ impl KeyHandle {
 
     /// Stores why the last input was refused, or why a message that timed out before the input was dropped.
     pub fn cause(&mut self, which: u32, report: &mut CauseReport, out: &mut [u8]) -> i32
-        ensures same { held self.new ≡ held self.old }
-        ensures cause { ReportsCause (held self.old) which (report.old, report.new) (out.old, out.new) result }
+        ensures same { device_of self.new ≡ device_of self.old }
+        ensures cause { ReportsCause (device_of self.old) which (report.old, report.new) (out.old, out.new) result }
     {
         if !self.is_initialized() {
             return ERR_NOT_INITIALIZED;
@@ -120,8 +120,8 @@ impl KeyHandle {
 
     /// Returns the number of queued packets.
     pub fn waiting(&mut self) -> i32
-        ensures same { held self.new ≡ held self.old }
-        ensures count { result ≡ count_or waiting_packets (held self.old) }
+        ensures same { device_of self.new ≡ device_of self.old }
+        ensures count { result ≡ count_or waiting_packets (device_of self.old) }
     {
         if !self.is_initialized() {
             return ERR_NOT_INITIALIZED;
@@ -131,8 +131,8 @@ impl KeyHandle {
 
     /// Stores what the session needs from the caller, and returns the number of its kind.
     pub fn need(&mut self, need: &mut CNeed) -> i32
-        ensures same { held self.new ≡ held self.old }
-        ensures need { ReportsNeed (held self.old) (need.old, need.new) result }
+        ensures same { device_of self.new ≡ device_of self.old }
+        ensures need { ReportsNeed (device_of self.old) (need.old, need.new) result }
     {
         if !self.is_initialized() {
             return ERR_NOT_INITIALIZED;
@@ -143,8 +143,8 @@ impl KeyHandle {
 
     /// Returns the number of credentials.
     pub fn credentials(&mut self) -> i32
-        ensures same { held self.new ≡ held self.old }
-        ensures count { result ≡ count_or credential_count (held self.old) }
+        ensures same { device_of self.new ≡ device_of self.old }
+        ensures count { result ≡ count_or credential_count (device_of self.old) }
     {
         if !self.is_initialized() {
             return ERR_NOT_INITIALIZED;
@@ -154,8 +154,8 @@ impl KeyHandle {
 
     /// Returns the number of pending assertions.
     pub fn pending(&mut self) -> i32
-        ensures same { held self.new ≡ held self.old }
-        ensures count { result ≡ count_or pending_assertions (held self.old) }
+        ensures same { device_of self.new ≡ device_of self.old }
+        ensures count { result ≡ count_or pending_assertions (device_of self.old) }
     {
         if !self.is_initialized() {
             return ERR_NOT_INITIALIZED;
@@ -165,8 +165,8 @@ impl KeyHandle {
 
     /// Stores the credential at an index. Fails if the index is out of range.
     pub fn credential(&mut self, place: usize, credential: &mut Credential) -> i32
-        ensures same { held self.new ≡ held self.old }
-        ensures credential { ReportsCredential (held self.old) place (credential.old, credential.new) result }
+        ensures same { device_of self.new ≡ device_of self.old }
+        ensures credential { ReportsCredential (device_of self.old) place (credential.old, credential.new) result }
     {
         if !self.is_initialized() {
             return ERR_NOT_INITIALIZED;
@@ -176,8 +176,8 @@ impl KeyHandle {
 
     /// Stores the meters of the session.
     pub fn meters(&mut self, meters: &mut CStats) -> i32
-        ensures same { held self.new ≡ held self.old }
-        ensures meters { ReportsMeters (held self.old) (meters.old, meters.new) result }
+        ensures same { device_of self.new ≡ device_of self.old }
+        ensures meters { ReportsMeters (device_of self.old) (meters.old, meters.new) result }
     {
         if !self.is_initialized() {
             return ERR_NOT_INITIALIZED;
@@ -188,7 +188,7 @@ impl KeyHandle {
 
     /// Adds a credential, and begins a new session.
     pub fn add(&mut self, at: u64, credential: &Credential) -> i32
-        ensures { Adds (held self.old) (held self.new) at credential.now result }
+        ensures { Adds (device_of self.old) (device_of self.new) at credential.now result }
     {
         if !self.is_initialized() {
             return ERR_NOT_INITIALIZED;
@@ -198,7 +198,7 @@ impl KeyHandle {
 
     /// Removes the credential with this ID, and begins a new session.
     pub fn remove(&mut self, at: u64, id: &[u8; 32]) -> i32
-        ensures { Removes (held self.old) (held self.new) at id.now result }
+        ensures { Removes (device_of self.old) (device_of self.new) at id.now result }
     {
         if !self.is_initialized() {
             return ERR_NOT_INITIALIZED;
@@ -208,7 +208,7 @@ impl KeyHandle {
 
     /// Removes all credentials, and begins a new session.
     pub fn clear(&mut self, at: u64) -> i32
-        ensures { Clears (held self.old) (held self.new) at result }
+        ensures { Clears (device_of self.old) (device_of self.new) at result }
     {
         if !self.is_initialized() {
             return ERR_NOT_INITIALIZED;
@@ -218,8 +218,8 @@ impl KeyHandle {
 
     /// Writes a snapshot of the credentials, and returns the snapshot's length.
     pub fn save(&mut self, out: &mut [u8]) -> i32
-        ensures same { held self.new ≡ held self.old }
-        ensures saves { SavesKey (held self.old) (out.old, out.new) result }
+        ensures same { device_of self.new ≡ device_of self.old }
+        ensures saves { SavesKey (device_of self.old) (out.old, out.new) result }
     {
         if !self.is_initialized() {
             return ERR_NOT_INITIALIZED;

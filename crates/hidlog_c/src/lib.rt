@@ -26,7 +26,7 @@ mod transactions;
 
 ghost use Rattle.session_log.specs.declared.command.ReplayMode.TheVariants as commands;
 ghost use Rattle.hidlog_c.specs.Commands.{RunsCommand};
-ghost use Rattle.hidlog_c.specs.Shown.{IsShown, detail_for};
+ghost use Rattle.hidlog_c.specs.Commands.{IsShown, detail_for};
 ghost use Rattle.session_show.specs.declared.detail.Detail.TheVariants.{Fixed as fixed};
 ghost use Rattle.std.specs.Prelude.{◌≡◌, ◌≤◌, ◌==◌, length, not};
 
@@ -64,7 +64,7 @@ pub extern "C" fn hidlog_check(log: &[u8], snapshot: &[u8], out: &mut [u8], outc
     *outcome = run(ReplayMode::Check, log, snapshot, out);
 }
 
-/// Replaces ignored inputs of the log by ticks, and writes the resulting log to the start of `out`.
+/// Writes the log's inputs and comments, with ticks in place of ignored inputs, to the start of `out`.
 #[unsafe(no_mangle)]
 pub extern "C" fn hidlog_quiet(log: &[u8], snapshot: &[u8], out: &mut [u8], outcome: &mut CResult)
     ensures { RunsCommand commands.Quiet log.now snapshot.now (out.old, out.new) outcome.new }

@@ -1,7 +1,7 @@
 //! Playing lines of a log on the session of a key.
 ghost use Rattle.std.specs.Prelude.{◌≡◌, [], take, Option};
 ghost use Rattle.hidlog_c.specs.Commands.{IsWritten};
-ghost use Rattle.hidlog_c.specs.Lines.{ArePlayed, FollowsLines, PlaysLines};
+ghost use Rattle.hidlog_c.specs.Commands.{ArePlayed, FollowsLines, PlaysLines};
 
 use crate::buffer_target::BufferTarget;
 use crate::capacity::CAPACITY;

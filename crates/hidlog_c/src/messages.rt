@@ -1,7 +1,7 @@
 //! The messages for errors.
 ghost use Rattle.std.specs.Prelude.{◌≡◌, ◌≤◌, ℕ, Some, Err, length};
 ghost use Rattle.session_log.specs.declared.fault.LogFault.{LogFault as AnyFault};
-ghost use Rattle.hidlog_c.specs.Numbers.{to_c_result};
+ghost use Rattle.hidlog_c.specs.Commands.{to_c_result};
 
 use crate::outcome::CResult;
 use arrayvec::ArrayVec;

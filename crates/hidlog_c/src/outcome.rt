@@ -1,6 +1,6 @@
 //! The result of a command in C.
 ghost use Rattle.std.specs.Prelude.{◌≡◌};
-ghost use Rattle.hidlog_c.specs.Numbers.{line_of, to_c_result, packet_of, refused};
+ghost use Rattle.hidlog_c.specs.Commands.{line_of, to_c_result, packet_of, refused};
 
 use cred_table::SnapshotFault;
 use session_log::LogFault;

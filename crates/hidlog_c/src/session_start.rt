@@ -4,7 +4,7 @@ ghost use Rattle.cred_table.specs.declared.row.Row.{Row as AnyRow};
 ghost use Rattle.cred_table.specs.Snapshots.{Refuses};
 ghost use Rattle.token_session.specs.Meters.{IsStateAfterValidStart, IsStateAfter, session_of};
 ghost use Rattle.hidlog_c.specs.Begin.{IsSnapshotOrEmpty};
-ghost use Rattle.hidlog_c.specs.Switched.{start_of, start_with};
+ghost use Rattle.hidlog_c.specs.Key.{start_of, start_with};
 
 use crate::capacity::CAPACITY;
 use authn_core::Config;

@@ -1,7 +1,7 @@
 //! Writes a log in its fixed text or its explained text.
 ghost use Rattle.std.specs.Prelude.{◌≡◌};
 ghost use Rattle.hidlog_c.specs.Commands.{IsWritten};
-ghost use Rattle.hidlog_c.specs.Shown.{IsShown, Shows};
+ghost use Rattle.hidlog_c.specs.Commands.{IsShown, Shows};
 ghost use Rattle.session_show.specs.declared.detail.Detail.TheVariants.{Explained as explained, Fixed as fixed};
 
 use crate::buffer_target::BufferTarget;

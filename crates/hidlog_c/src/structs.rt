@@ -1,6 +1,6 @@
 //! The C structs in which calls on a key store their results.
 ghost use Rattle.std.specs.Prelude.{◌≡◌, ◌≤◌, ◌++◌, ◌-◌, drop, length, replicate};
-ghost use Rattle.authn_core.specs.Needs.{IsValidNeed};
+ghost use Rattle.authn_core.specs.Views.{IsValidNeed};
 ghost use Rattle.authn_core.specs.Views.{to_needed};
 ghost use Rattle.hidlog_c.specs.Reports.{to_c_credential, to_c_stats, to_c_need};
 

@@ -1,7 +1,7 @@
 //! Writes the transactions of a log in numbers.
 ghost use Rattle.std.specs.Prelude.{◌≡◌};
 ghost use Rattle.hidlog_c.specs.Commands.{IsWritten};
-ghost use Rattle.hidlog_c.specs.Shown.{IsShown, Shows};
+ghost use Rattle.hidlog_c.specs.Commands.{IsShown, Shows};
 ghost use Rattle.session_show.specs.declared.detail.Detail.TheVariants.{Fixed as fixed};
 
 use crate::buffer_target::BufferTarget;

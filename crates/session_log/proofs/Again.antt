@@ -7,18 +7,18 @@ use Rattle.hex.specs.Hex.{decode_sized, encode_lower}
 use Rattle.hex.proofs.HexLemmas.{decode_sized-encode_lower, length-encode_with, IsOk-decode_sized}
 use Rattle.hid_packet.specs.declared.packet.Packet.{Packet}
 use Rattle.token_session.specs.{declared.input.Meters.Meters, Meters.SessionState}
-use Rattle.session_log.specs.{declared.line.Line.Line, Lines.lines, Parsed.parsed, Replay.IsDone, Session.RepeatsIn}
+use Rattle.session_log.specs.{declared.line.Line.Line, Lines.lines, Grammar.parsed, Replay.IsDone, Replay.RepeatsIn}
 use Rattle.session_log.specs.declared.line.Line.TheVariants.{Sent, Count, Input, Comment}
-use Rattle.session_log.specs.Log.{Played, with_text_before, played, play_all, output_of, log, last_text, parsed_line_text, state_after, state_after_parsed}
-use Rattle.session_log.specs.{Sent.SendsPackets, Sent.AllSend, Sent.FitsMeters, Needs.need_lines, Needs.is_need_line}
-use Rattle.session_log.specs.Text.{IsPacket, ArePackets, with_line_feed, sent_text, meters_line}
+use Rattle.session_log.specs.Replay.{Played, with_text_before, played, play_all, output_of, log, last_text, parsed_line_text, state_after, state_after_parsed}
+use Rattle.session_log.specs.{Replay.SendsPackets, Replay.AllSend, Replay.FitsMeters, World.need_lines, World.is_need_line}
+use Rattle.session_log.specs.World.{IsPacket, ArePackets, with_line_feed, sent_text, meters_line}
 use Rattle.session_log.specs.World.{LineSemantics, InputSemantics, replay_world, live_world}
-use Rattle.session_log.proofs.Feeds.{feedless, AreLines, feedless-append, AreLines-append, lines_joined}
-use Rattle.session_log.proofs.Feeds.{lines_are_lines, decimal_feedless, hex_feedless, IsSound, sound_line, sound_first}
+use Rattle.session_log.proofs.Through.{feedless, AreLines, feedless-append, AreLines-append, lines_joined}
+use Rattle.session_log.proofs.Through.{lines_are_lines, decimal_feedless, hex_feedless, IsSound, sound_line, sound_first}
 use Rattle.session_log.proofs.Spelled.{count_rest, spelled_is_read}
 use Rattle.session_log.proofs.Through.{played_sound, prefixed_twice, said_fault, log_is}
 use Rattle.authn_core.specs.Views.{Needed}
-use Rattle.session_log.proofs.Tells.{AreTold, needs_told, told_are}
+use Rattle.session_log.proofs.Spelled.{AreTold, needs_told, told_are}
 use Rattle.std.specs.Io.KnownBytes.{Appends}
 
 -- A world in which no line is faulty but for its text. What was sent and counted in an earlier run is dropped, and at

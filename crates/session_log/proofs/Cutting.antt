@@ -1,13 +1,47 @@
--- Bytes cut at line feeds, from the front.
-use Rattle.std.proofs.Common.{◌≡◌, ℕ, suc, zero, ◌+◌, ◌<◌, ◌==◌, Bool, true, false, cond, List, [], ◌∷◌, ◌++◌, length}
-use Rattle.std.proofs.Common.{get_or, take, drop, position, Some, None, refl, sym, ap, ◌∙◌, arith, add-one}
-use Rattle.std.proofs.Common.{length-append, length-take-le, ◌≤◌, take-append-drop}
-use Rattle.std.{proofs.Math.Seq.take-suc, specs.List.onto_first}
-use Rattle.std.proofs.lemmas.Bool.{eqb-true, ltb-false, Decides.nat_tests}
-use Rattle.std.proofs.lemmas.List.{take-take, Quantifiers.position-Some, Sums.fails_before_first}
+-- Bytes that are cut at line feeds, from the front.
+use Rattle.std.proofs.Common.{◌≡◌, Bool, true, false, Option, Some, None, arith, ◌==◌, ℕ, ltb, cond, List, length}
+use Rattle.std.proofs.Common.{position, suc, zero, ◌+◌, ◌<◌, [], ◌∷◌, ◌++◌, get_or, take, drop, refl, sym, ap, ◌∙◌}
+use Rattle.std.proofs.Common.{add-one, length-append, length-take-le, ◌≤◌, take-append-drop, ◌^◌, append_assoc}
+use Rattle.std.proofs.lemmas.List.Sums.{position_or_len_is, fails_before_first}
+use Rattle.std.specs.List.{position_or_len, onto_first}
+use Rattle.memchr.specs.Find.{IsFirstByte, is_byte}
+use Rattle.std.proofs.Math.Seq.{take-suc}
+use Rattle.std.proofs.lemmas.Bool.{eqb-true, ltb-false}
+use Rattle.std.proofs.lemmas.Bool.Decides.{nat_tests}
+use Rattle.std.proofs.lemmas.List.{take-take}
+use Rattle.std.proofs.lemmas.List.Quantifiers.{position-Some}
 use Rattle.std.proofs.lemmas.List.Splits.{slice_split_none, slice_split-cons_yes, slice_split-cons_no}
-use Rattle.session_log.specs.Text.{with_line_feed}
+use Rattle.session_log.specs.World.{with_line_feed}
 use Rattle.session_log.specs.Lines.{is_line_feed, pieces, all_but_last, last_of, lines_of_pieces, lines}
+use Rattle.std.specs.Io.KnownBytes.{Consumes}
+use Rattle.std.proofs.KnownBytes.{Consumes-trans}
+
+-- ---- cases that a fact rules out
+
+pub refuted : (b : Bool) → (b ≡ true → ⊥) → b ≡ false
+refuted b h = search arith
+
+pub no_some : {A : Type 0} (o : Option A) → ((a : A) → o ≡ Some a → ⊥) → o ≡ None
+no_some o h = search arith
+
+-- ---- the first place of a byte is the position that a definition names
+
+falsely : (b : Bool) → (b ≡ true → ⊥) → b ≡ false
+falsely b h = search arith
+
+placed : (byte : ℕ) (xs : List ℕ) (i : ℕ) (b : Bool) → position_or_len (λ x. x == byte) xs ≡ i → ltb i (length xs) ≡ b
+    → cond b (Some i) None ≡ position (λ x. x == byte) xs
+placed byte xs i b e t = search arith
+
+pub first_is : (byte : ℕ) (xs : List ℕ) (r : Option ℕ) → IsFirstByte (is_byte byte) xs r
+    → r ≡ position (λ x. x == byte) xs
+first_is byte xs None h =
+    placed byte xs (length xs) false
+    (position_or_len_is (λ x. x == byte) xs (length xs) 0 (omega arith) (λ k l. falsely _ (h k (omega arith) l))
+    (λ l. absurd (omega arith))) (grind arith)
+first_is byte xs (Some i) h = search (arith, placed, position_or_len_is, falsely)
+
+-- ---- bytes cut at line feeds, from the front
 
 cut_at : (w : List ℕ) (end : ℕ) (tail : List ℕ) → end < length w → is_line_feed (get_or w end 0) ≡ true
     → ((k : ℕ) → k < end → is_line_feed (get_or w k 0) ≡ false) → pieces (take (suc end) w ++ tail)
@@ -126,3 +160,16 @@ some_line (x ∷ xs) h = go (is_line_feed x) refl
     go true e = ([], lines_of_pieces (rest.0 ∷ rest.1), search (arith, slice_split-cons_yes, rest.2))
     go false e = let first = first_line x rest.0 rest.1 in
         (first.0, first.1, search (slice_split-cons_no, rest.2, first.2))
+
+-- ---- bytes that are read in several calls
+
+-- what a reader gave is after what stood there
+abbrev pub Gathers : List ℕ → List ℕ → Option (List ℕ) → Option (List ℕ) → Type 0
+Gathers old new a b = (more : List ℕ) × (new ≡ old ++ more) × Consumes a b more
+
+pub gathers : (x y z : List ℕ) (a b c : Option (List ℕ)) → Gathers x y a b → Gathers y z b c → Gathers x z a c
+gathers x y z a b c p q = search (arith, append_assoc, Consumes-trans)
+
+-- a line that has something in it is in the count
+pub in_count : (n : ℕ) (w : List ℕ) → (2 ^ 32 ≤ n → w ≡ []) → 0 < length w → n < 2 ^ 32
+in_count n w h k = search arith

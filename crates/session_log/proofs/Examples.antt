@@ -8,10 +8,10 @@ use Rattle.authn_core.specs.declared.replies.Presence.TheVariants.{Granted, Deni
 use Rattle.token_session.specs.declared.input.Input.TheVariants.{Packet, Tick, Presence, Key, Signature}
 use Rattle.session_log.specs.declared.{fault.LogFault.LogFault, line.Line.Line}
 use Rattle.session_log.specs.declared.fault.LogFault.TheVariants.{BadLine, TooLong, Differs, TooManyLines}
-use Rattle.session_log.specs.{Check.Compared, Check.first_comparison, Check.check_world, Parsed.moment, Parsed.parsed, Needs.need_lines}
+use Rattle.session_log.specs.{Check.Compared, Check.first_comparison, Check.check_world, Grammar.moment, Grammar.parsed, World.need_lines}
 use Rattle.session_log.specs.declared.line.Line.TheVariants.{Input, Sent, Comment, Count}
 use Rattle.session_log.specs.Lines.{lines, whole_lines, last_piece}
-use Rattle.session_log.specs.Log.{line_fault, fault_of, play_all, log}
+use Rattle.session_log.specs.Replay.{line_fault, fault_of, play_all, log}
 use Rattle.session_log.specs.World.{InputSemantics, LineSemantics, replay_world, quiet_world, live_world}
 use Rattle.authn_core.specs.Views.{nothing, presence, sign}
 use Rattle.hex.specs.Hex.{encode_with}

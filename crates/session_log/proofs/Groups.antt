@@ -1,16 +1,193 @@
--- What a log that was compared has.
-use Rattle.std.proofs.Common.{◌≡◌, ℕ, suc, ◌+◌, List, [], ◌∷◌, ◌++◌, length, sum_by, Option, Some, None, refl, sym, ap}
-use Rattle.std.proofs.{Common.◌∙◌, Common.subst, Common.arith, lemmas.List.Sums.sum_by-cons}
-use Rattle.std.specs.Cmp.Lexicographic.{same_text, other_text}
+-- What a player makes of a line, and logs that are compared.
+use Rattle.std.proofs.Common.{◌≡◌, ◌≤◌, ◌<◌, ℕ, [], ◌∷◌, length, length-append, List, Option, None, Some, IfErr, OnOk}
+use Rattle.std.proofs.Common.{Result, Ok, Err, inl, inr, ◌⊎◌, refl, sym, ap, ◌∙◌, subst, arith, Bool, ◌-◌, ◌^◌, ◌==◌}
+use Rattle.std.proofs.Common.{cond, not, ◌+◌, true, false, is_some, suc, ◌++◌, sum_by}
+use Rattle.std.proofs.KnownBytes.{Appends-nil, Keeps-refl}
+use Rattle.hid_packet.specs.declared.packet.Packet.{Packet}
+use Rattle.session_log.specs.declared.fault.LogFault.{LogFault}
+use Rattle.session_log.specs.declared.fault.LogFault.TheVariants.{Differs}
+use Rattle.session_log.specs.declared.line.Line.{Line}
+use Rattle.session_log.specs.declared.line.Line.TheVariants.{Sent, Count, Comment, Input}
+use Rattle.session_log.specs.Replay.{ending_of}
+use Rattle.session_log.specs.Replay.{parsed_line_fault, played, first_fault, fault_of, line_fault, state_after}
+use Rattle.session_log.specs.Replay.{state_after_parsed}
+use Rattle.session_log.specs.Grammar.{parsed}
+use Rattle.session_log.specs.Lines.{WritesLogLine}
+use Rattle.session_log.specs.World.{with_line_feed}
+use Rattle.session_log.specs.World.{LineSemantics, InputSemantics}
+use Rattle.session_log.specs.Replay.{FinishesLog, IsEndFault, IsLineFault, PlaysLine, Logs, PlaysWholeLog}
+use Rattle.session_log.proofs.Through.{on_any, sound_first, played_sound, played_faulty, first_is_line}
+use Rattle.session_log.specs.Command.{PlaysThrough, without_meters}
+use Rattle.token_session.specs.declared.input.Meters.{Meters}
 use Rattle.token_session.specs.declared.input.Timed.{Timed}
-use Rattle.session_log.{proofs.Cases.no_some, proofs.Feeds.sound_first, specs.Inputs.inputs, specs.Inputs.line_inputs}
-use Rattle.session_log.specs.declared.fault.LogFault.{LogFault, TheVariants.Differs}
-use Rattle.session_log.specs.declared.line.Line.{Line, TheVariants.Input, TheVariants.Sent}
-use Rattle.session_log.specs.Check.{Compared, first_comparison, difference, missing_of, differs_from, after_first, check_world}
-use Rattle.session_log.specs.Groups.{Groups, prepend_packet, prepend_line, found_groups, sent_groups, line_numbers, input_lines}
-use Rattle.session_log.specs.{Groups.DifferFirst, Groups.IsFirstDifference, Parsed.parsed, World.InputSemantics, World.LineSemantics}
-use Rattle.session_log.specs.Log.{played, first_fault, fault_of, parsed_line_fault, line_fault, state_after, state_after_parsed}
-use Rattle.session_log.proofs.Through.{played_sound, played_faulty, first_is_line}
+use Rattle.std.specs.Cmp.Lexicographic.{pointwise, same_text, other_text}
+use Rattle.std.specs.Option.{option_eq}
+use Rattle.token_session.specs.Meters.{SessionState}
+use Rattle.session_log.specs.Check.{Compared, after_first, differs_from, log_comparison, due_packets, missing_of}
+use Rattle.session_log.specs.Check.{comparison_after, comparison_fault, first_comparison, difference, check_world}
+use Rattle.session_log.specs.Replay.{session_semantics}
+use Rattle.session_log.specs.declared.check_player.CheckPlayer.{CheckPlayer}
+use Rattle.std.proofs.lemmas.List.Sums.{sum_by-cons}
+use Rattle.session_log.proofs.Cutting.{no_some}
+use Rattle.session_log.specs.Check.{inputs, line_inputs}
+use Rattle.session_log.specs.Check.{Groups, prepend_packet, prepend_line, found_groups, sent_groups, line_numbers}
+use Rattle.session_log.specs.Check.{input_lines, DifferFirst, IsFirstDifference}
+
+-- ---- what a player makes of one line, and of the end of the lines
+
+-- the fault of a write is one of any line, and of the end
+written_at : {F A : Type 0} (taken : F → Option (List ℕ)) (failed : F → ℕ) (target : F × F) (text : List ℕ)
+    (r : Result A LogFault) (n : ℕ) → WritesLogLine taken failed target text r → IfErr r (IsLineFault n) × IfErr r IsEndFault
+written_at taken failed target text (Ok x) n put = (tt, tt)
+written_at taken failed target text (Err e) n put = (subst (IsLineFault n) (sym put.0) tt, subst IsEndFault (sym put.0) tt)
+
+-- a short line fits with its line feed
+pub fits_ended : (line text : List ℕ) → text ≡ with_line_feed line → length line < 256 → length text ≤ 256
+fits_ended line text is short = omega (arith, ap length is, length-append line (10 ∷ []))
+
+-- nothing was written, without a fault and with one
+abbrev quietly : Result (Unit {0}) LogFault
+quietly = Ok tt
+
+abbrev loudly : LogFault → Result (Unit {0}) LogFault
+loudly e = Err e
+
+module _ {S F : Type 0} (world : LineSemantics S) (taken : F → Option (List ℕ)) (failed : F → ℕ) where
+  -- what is said of line n, and X of a player that goes on
+  abbrev Played : {A : Type 0} → Type 0 → ℕ → S → S → List ℕ → F × F → Result A LogFault → Type 0
+  Played X n s t line target r =
+      record {
+        played : PlaysLine world taken failed n s t line target (ending_of r);
+        own : IfErr r (IsLineFault n);
+        next : OnOk r X;
+      }
+
+  -- the text for a line that says this was handed over
+  pub writes_for : {A X : Type 0} (n : ℕ) (s t : S) (line : List ℕ) (l : Line) (target : F × F) (r : Result A LogFault)
+      (text : List ℕ) → parsed line ≡ Some l → world.stops s l ≡ None → t ≡ world.moves s l → world.sound s l
+      → text ≡ world.writes s line l → WritesLogLine taken failed target text r → X → Played X n s t line target r
+  writes_for n s t line l target r text is sound stood packets same put next =
+      record { played = search arith; own = (written_at taken failed target text r n put).0; next = on_any r next }
+
+  -- nothing is written for it
+  pub writes_none : {X : Type 0} (n : ℕ) (s t : S) (line : List ℕ) (l : Line) (w : F) → parsed line ≡ Some l →
+      world.stops s l ≡ None
+      → t ≡ world.moves s l → world.sound s l → [] ≡ world.writes s line l → X
+      → Played X n s t line (w, w) quietly
+  writes_none n s t line l w is sound stood packets same next =
+      writes_for n s t line l (w, w) quietly [] is sound stood packets same (Appends-nil (taken w), refl) next
+
+  -- it shows a difference
+  pub differs_for : (X : Type 0) (n : ℕ) (s : S) (line : List ℕ) (l : Line) (w : F) (input packet : ℕ) (e : LogFault)
+      → parsed line ≡ Some l → world.stops s l ≡ Some (Differs input packet) → e ≡ Differs input packet
+      → Played X n s s line (w, w) (loudly e)
+  differs_for X n s line l w input packet e is stops same =
+      subst (λ (f : LogFault). Played X n s s line (w, w) (loudly f)) (sym same)
+      (record { played = (ap (parsed_line_fault world n s) is ∙ stops, refl, Keeps-refl (taken w), refl); own = tt; next = tt })
+
+  -- what an earlier run sent or counted is dropped
+  abbrev IsDropped : S → List ℕ → Line → Type 0
+  IsDropped s line l =
+      (world.stops s l ≡ None) × (s ≡ world.moves s l) × world.sound s l × ([] ≡ world.writes s line l)
+
+  pub drops : {X : Type 0} (n : ℕ) (s : S) (line : List ℕ) (l : Line) (w : F) →
+      ((x : Packet) × (l ≡ Sent x)) ⊎ (l ≡ Count)
+      → parsed line ≡ Some l → ((x : Packet) → IsDropped s line (Sent x)) → IsDropped s line Count → X
+      → Played X n s s line (w, w) quietly
+  drops n s line l w (inl h) is sent count next = let d = sent h.0 in
+      writes_none n s s line (Sent h.0) w (is ∙ ap Some h.1) d.0 d.1 d.2 d.3 next
+  drops n s line l w (inr h) is sent count next =
+      writes_none n s s line Count w (is ∙ ap Some h) count.0 count.1 count.2 count.3 next
+
+  -- what is said of the end of the lines, and X of the player
+  abbrev Closed : {A : Type 0} → Type 0 → S → F × F → Result A LogFault → Type 0
+  Closed X s target r =
+      record { closed : FinishesLog world taken failed s target (ending_of r); own : IfErr r IsEndFault; same : X }
+
+  -- the text at the end was handed over
+  pub closes_by : {A X : Type 0} (s : S) (target : F × F) (r : Result A LogFault) (text : List ℕ) → world.lacks s ≡ None
+      → text ≡ world.ending s → WritesLogLine taken failed target text r → X
+      → Closed X s target r
+  closes_by s target r text none is put same =
+      record { closed = search arith; own = (written_at taken failed target text r 0 put).1; same = same }
+
+  -- something is missing there
+  pub closes_at : {X : Type 0} (s : S) (w : F) (input packet : ℕ) (e : LogFault)
+      → world.lacks s ≡ Some (Differs input packet) → e ≡ Differs input packet → X → Closed X s (w, w) (loudly e)
+  closes_at {X = X} s w input packet e lacks same x =
+      subst (λ (f : LogFault). Closed X s (w, w) (loudly f)) (sym same)
+      (record { closed = (lacks, Keeps-refl (taken w), refl); own = tt; same = x })
+
+-- ---- what is said of an answer with meters is said of it without them
+
+pub plays_unmetered : {I O : Type 0} (world : LineSemantics (List Timed)) (h later : List Timed) (left : I
+    → Option (List ℕ)) (unread : I → ℕ) (ended : I → Bool) (taken : O → Option (List ℕ)) (unwritten : O
+    → ℕ) (answer : Result Meters LogFault) (input : I × I) (output : O × O)
+    → PlaysThrough world h (λ bytes text. Logs world h later bytes text answer) left unread ended taken unwritten answer
+    input output
+    → PlaysThrough world h (λ bytes text. PlaysWholeLog world h later bytes text (ending_of (without_meters answer))) left unread
+    ended taken unwritten (without_meters answer) input output
+plays_unmetered world h later left unread ended taken unwritten answer input output k = search arith
+
+-- ---- where a comparison stands, and what the packet decides that is due next
+
+abbrev pub standing : CheckPlayer → SessionState → Compared SessionState
+standing o s = log_comparison s o.lines o.input o.found (due_packets o.awaited o.outbox) o.inputs o.packets
+
+pub is_silent : (o : Option Packet) → false ≡ is_some o → o ≡ None
+is_silent None h = refl
+is_silent (Some x) h = cc
+
+pub is_due : (o : Option Packet) (rest : List (List ℕ)) (f : LogFault) → true ≡ is_some o
+    → missing_of (due_packets o rest) f ≡ Some f
+is_due None rest f h = cc
+is_due (Some x) rest f h = refl
+
+-- a comment or a count leaves all but the number of lines
+pub passes : (c : Compared SessionState) (n : ℕ) (l : Line) → (l ≡ Comment) ⊎ (l ≡ Count) → n ≡ c.lines + 1
+    → (comparison_fault c l ≡ None) × (record c { lines = n } ≡ comparison_after session_semantics c l)
+passes c n l (inl h) at = search (arith, at)
+passes c n l (inr h) at = search (arith, at)
+
+-- a count that rises by one in a line, or stays, or begins again
+pub rises : {m n l a b : ℕ} → m ≡ n → n ≡ l + 1 → a ≤ l → b ≡ a + 1 → b ≤ m
+rises here at below is = omega (arith, here, at, below, is)
+
+pub stays : {m n l a b : ℕ} → m ≡ n → n ≡ l + 1 → a ≤ l → b ≡ a → b ≤ m
+stays here at below is = omega (arith, here, at, below, is)
+
+pub begins : {m b : ℕ} → b ≡ 0 → b ≤ m
+begins is = omega (arith, is)
+
+-- a count has space for one more
+pub at_most : (n l k : ℕ) → n ≡ l + 1 → n ≤ 2 ^ 32 → k ≤ l → k < 2 ^ 64 - 1
+at_most n l k is few below = omega arith
+
+pub not_full : (n l k : ℕ) → n ≡ l + 1 → n < 2 ^ 32 → k ≤ l → k < 2 ^ 64 - 1
+not_full n l k is few below = omega arith
+
+-- another packet is due than this, or this one
+unlike : (b : Bool) → true ≡ not b → b ≡ false
+unlike true h = cc
+unlike false h = refl
+
+like : (b : Bool) → false ≡ not b → b ≡ true
+like true h = refl
+like false h = cc
+
+module _ (eq : Packet → Packet → Bool) (same : (p q : Packet) → eq p q ≡ pointwise ◌==◌ p.0 q.0) (rest : List (List ℕ))
+    (packet : Packet) (f : LogFault) where
+  pub is_other : (o : Option Packet) → true ≡ not (option_eq eq o (Some packet))
+      → differs_from (due_packets o rest) packet.0 f ≡ Some f
+  is_other None h = refl
+  is_other (Some p) h = ap (λ (b : Bool). cond b None (Some f)) (sym (same p packet) ∙ unlike (eq p packet) h)
+
+  pub is_next : (o : Option Packet) → false ≡ not (option_eq eq o (Some packet))
+      → (differs_from (due_packets o rest) packet.0 f ≡ None) × (after_first (due_packets o rest) ≡ rest)
+  is_next None h = cc
+  is_next (Some p) h = (ap (λ (b : Bool). cond b None (Some f)) (sym (same p packet) ∙ like (eq p packet) h), refl)
+
+-- ---- what a log that was compared has
 
 -- The fault of a first line, and what follows where it has none.
 

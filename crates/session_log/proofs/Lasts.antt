@@ -2,13 +2,13 @@
 use Rattle.std.proofs.Common.{◌≡◌, ℕ, suc, ◌+◌, ◌≤◌, ◌^◌, List, [], ◌∷◌, ◌++◌, length, take, drop, Option, Some, Result}
 use Rattle.std.proofs.Common.{Ok, Err, inl, inr, IfErr, refl, sym, ap, ◌∙◌, arith, append-nil, length-append}
 use Rattle.std.{proofs.Common.take-append-drop, specs.Io.KnownBytes.Consumes}
-use Rattle.session_log.specs.{declared.fault.LogFault.LogFault, World.LineSemantics, Log.line_fault, Window.HasLine, Window.Stops}
+use Rattle.session_log.specs.{declared.fault.LogFault.LogFault, World.LineSemantics, Replay.line_fault, Lines.HasLine, Lines.Stops}
 use Rattle.session_log.specs.declared.fault.LogFault.TheVariants.{TooLong, Read, Write, TooManyLines, Memory}
-use Rattle.session_log.specs.Ending.{ending_of_fault, ending_of}
+use Rattle.session_log.specs.Replay.{ending_of_fault, ending_of}
 use Rattle.session_log.specs.Lines.{pieces, all_but_last, whole_lines, last_piece}
 use Rattle.session_log.specs.Replay.{IsWithinLine, IsLineFault, IsFaultOfLinesRead, PlaysLine, ReadsTo}
 use Rattle.session_log.proofs.Cutting.{first_piece, one_piece, pieces_some, front_of, last_is}
-use Rattle.session_log.proofs.{Exits.short_in_front, Through.Through, Through.played_faulty, Through.said_fault}
+use Rattle.session_log.proofs.{Through.short_in_front, Through.Through, Through.played_faulty, Through.said_fault}
 
 length-all_but_last : {A : Type 0} (x : A) (xs : List A) → length (all_but_last (x ∷ xs)) ≡ length xs
 length-all_but_last x [] = refl

@@ -4,18 +4,18 @@ use Rattle.std.proofs.Common.{length, flat_map, codes, decimal, Option, Some, No
 use Rattle.std.proofs.Common.{append-nil, length-append}
 use Rattle.std.proofs.lemmas.{Bool.Decides.nat_tests, Fmt.length-decimal-le}
 use Rattle.authn_core.specs.Turn.{Start}
-use Rattle.token_session.specs.{declared.input.Timed.Timed, Law.state_of, Law.append_inputs, Meters.SessionState, Meters.session_of}
+use Rattle.token_session.specs.{declared.input.Timed.Timed, History.state_of, History.append_inputs, Meters.SessionState, Meters.session_of}
 use Rattle.token_session.specs.History.{receive, received}
 use Rattle.token_session.specs.Noise.{HasTicksForNoise, IsSameOrTick, is_noise_after, tick_at}
-use Rattle.token_session.proofs.Noise.{noise_is_named, quiet_alike}
+use Rattle.token_session.proofs.Metering.{noise_is_named, quiet_alike}
 use Rattle.session_log.specs.declared.line.Line.{Line, TheVariants.Input, TheVariants.Comment}
-use Rattle.session_log.specs.{Inputs.inputs, Inputs.line_inputs, Session.history_semantics, Session.quiet_history}
-use Rattle.session_log.specs.{Lines.lines, Parsed.parsed, Text.with_line_feed, Text.tick_text, Sent.AllSend, Sent.SendsPackets}
-use Rattle.session_log.specs.Log.{played, play_all, parsed_line_text, state_after, state_after_parsed, parsed_line_fault, line_fault}
+use Rattle.session_log.specs.{Check.inputs, Check.line_inputs, Replay.history_semantics, Replay.quiet_history}
+use Rattle.session_log.specs.{Lines.lines, Grammar.parsed, World.with_line_feed, World.tick_text, Replay.AllSend, Replay.SendsPackets}
+use Rattle.session_log.specs.Replay.{played, play_all, parsed_line_text, state_after, state_after_parsed, parsed_line_fault, line_fault}
 use Rattle.session_log.specs.World.{InputSemantics, LineSemantics, quiet_world}
 use Rattle.session_log.proofs.Again.{WritesLines, written, written_are, written_text}
-use Rattle.session_log.proofs.Feeds.{IsSound, sound_first, sound_line, feedless, AreLines, feedless-append}
-use Rattle.session_log.proofs.Feeds.{lines_joined, lines_are_lines, decimal_feedless}
+use Rattle.session_log.proofs.Through.{IsSound, sound_first, sound_line, feedless, AreLines, feedless-append}
+use Rattle.session_log.proofs.Through.{lines_joined, lines_are_lines, decimal_feedless}
 use Rattle.session_log.proofs.Spelled.{read_is_spelled, spelled_is_read}
 use Rattle.session_log.proofs.Through.{played_sound, said_fault}
 

@@ -1,24 +1,46 @@
--- A number has one spelling in digits.
+-- Numbers in digits, and bytes in hexadecimal digits.
 use Rattle.std.proofs.Common.{◌≡◌, ℕ, ◌<◌, ◌^◌, ◌==◌, ◌&&◌, nat_lt, Bool, true, false, cond, List, Option, Some, None}
 use Rattle.std.proofs.Common.{decimal, refl, sym, ap, ◌∙◌, subst, suc, ◌+◌, [], ◌∷◌, ◌++◌, length, get_or, take, drop}
-use Rattle.std.proofs.Common.{position, arith, add-one, length-append, take-append-drop, ◌*◌, ◌≤◌, codes}
+use Rattle.std.proofs.Common.{position, arith, add-one, length-append, take-append-drop, ◌*◌, ◌≤◌, codes, ◌-◌}
+use Rattle.std.proofs.Common.{SomeIff, drop_of_length-le, zero, ◌/◌, min, map, flat_map, All, length-drop}
+use Rattle.std.proofs.Common.{slice_index}
 use Rattle.std.proofs.lemmas.Bool.{ne_eqb, lt-ltb, ltb-true, eqb-true, le-leb, leb-true}
-use Rattle.std.proofs.lemmas.{Fmt.decimal_is_IsNumeral, List.Quantifiers.position-Some}
+use Rattle.std.proofs.lemmas.Fmt.{decimal_is_IsNumeral, decimal_digit, decimal_nonempty, decimal-digits_value}
+use Rattle.std.proofs.lemmas.Fmt.{first_decimal}
+use Rattle.std.proofs.lemmas.List.Quantifiers.{position-Some}
 use Rattle.std.specs.Cmp.Lexicographic.{pointwise, same_text, other_text}
-use Rattle.std.specs.{Str.Parse.digits_value, Str.Parse.AllDigits, Char.digit_value, List.AllPass, List.position_or_len}
-use Rattle.session_log.proofs.Cases.{no_some, refuted}
-use Rattle.session_log.specs.Parsed.{moment, first_field, ◌>>=◌, is_word, parsed_packet, parsed_presence, parsed_key_pair, parsed_new_key}
-use Rattle.session_log.specs.Parsed.{parsed_signature_bytes, parsed_signature, parsed_input, input_line, parsed}
+use Rattle.std.specs.Str.Parse.{digits_value, AllDigits, digits_value_after}
+use Rattle.std.specs.Char.{digit_value}
+use Rattle.std.specs.List.{AllPass, position_or_len}
+use Rattle.session_log.proofs.Cutting.{no_some, refuted}
+use Rattle.session_log.specs.Grammar.{moment, first_field, ◌>>=◌, is_word, parsed_packet, parsed_presence}
+use Rattle.session_log.specs.Grammar.{parsed_key_pair, parsed_new_key, parsed_signature_bytes, parsed_signature}
+use Rattle.session_log.specs.Grammar.{parsed_input, input_line, parsed}
 use Rattle.std.proofs.Math.Seq.{take-append_seam, drop-append-add, drop-cons}
-use Rattle.hex.specs.Hex.{is_hex_digit}
+use Rattle.hex.specs.Hex.{is_hex_digit, encode_with, encode_lower, lower_digits}
 use Rattle.hex.proofs.HexLemmas.{IsOk-decode_sized, decode_sized-ok, decode_sized-twice, decode_of-ok}
-use Rattle.authn_core.specs.declared.replies.{NewKey.NewKey, Presence.Presence as AnyPresence}
+use Rattle.hex.proofs.HexLemmas.{length-encode_with}
+use Rattle.authn_core.specs.declared.replies.NewKey.{NewKey}
+use Rattle.authn_core.specs.declared.replies.Presence.{Presence as AnyPresence}
 use Rattle.authn_core.specs.declared.replies.Presence.TheVariants.{Granted, Denied, TimedOut}
 use Rattle.token_session.specs.declared.input.Input.{Input as AnyInput}
 use Rattle.token_session.specs.declared.input.Input.TheVariants.{Packet, Tick, Presence, Key, Signature}
-use Rattle.session_log.specs.declared.line.Line.{Line, TheVariants.Input, TheVariants.Count}
+use Rattle.session_log.specs.declared.line.Line.{Line}
+use Rattle.session_log.specs.declared.line.Line.TheVariants.{Input, Count, Comment}
 use Rattle.session_log.specs.Grammar.{IsHexOf, IsFieldText, IsInputText, IsLogLineText, letter_and_space}
-use Rattle.session_log.specs.Words.{presence_word, refusal_word}
+use Rattle.session_log.specs.Grammar.{presence_word, refusal_word}
+use Rattle.std.proofs.lemmas.List.{drop_more, length-take, take_min, drop_min}
+use Rattle.std.proofs.lemmas.Str.Parse.{numerals_by_value, tells_digits}
+use Rattle.std.proofs.lemmas.List.Elements.{All-nil, All-cons}
+use Rattle.std.specs.Simd.{first_chunks}
+use Rattle.authn_core.specs.Views.{Needed, nothing, presence, key, sign}
+use Rattle.authn_core.specs.Views.{IsValidNeed}
+use Rattle.session_log.specs.World.{need_lines, pieces_of, reports_need, signature_need_line, signed_line}
+use Rattle.session_log.specs.World.{is_need_line}
+use Rattle.session_log.specs.Lines.{is_line_feed}
+use Rattle.session_log.proofs.Through.{feedless, AreLines, both, feedless-append, IsSound}
+
+-- ---- a number has one spelling in digits
 
 -- digits that write n are read as n
 pub moment_of : (digits : List ℕ) (n : ℕ) → n < 2 ^ 64 → digits ≡ decimal n → moment digits ≡ Some n
@@ -121,11 +143,11 @@ refused_key field h = ap parsed_new_key h
 refused_signature : (field : List ℕ) → field ≡ refusal_word → parsed_signature field ≡ Some (Signature None)
 refused_signature field h = ap parsed_signature h
 
-key_fields : (id x y : List ℕ) (key : NewKey) → IsHexOf id 32 key.id → IsHexOf x 32 key.x → IsHexOf y 32 key.y
-    → parsed_key_pair (id ++ 32 ∷ (x ++ 32 ∷ y)) ≡ Some key
-key_fields id x y key a b c =
-    let first = parted id (x ++ 32 ∷ y) (hex_no_space id (all_hex id 32 key.id a)) in
-    let second = parted x y (hex_no_space x (all_hex x 32 key.x b)) in
+key_fields : (id x y : List ℕ) (pair : NewKey) → IsHexOf id 32 pair.id → IsHexOf x 32 pair.x → IsHexOf y 32 pair.y
+    → parsed_key_pair (id ++ 32 ∷ (x ++ 32 ∷ y)) ≡ Some pair
+key_fields id x y pair a b c =
+    let first = parted id (x ++ 32 ∷ y) (hex_no_space id (all_hex id 32 pair.id a)) in
+    let second = parted x y (hex_no_space x (all_hex x 32 pair.x b)) in
     rw (first, second, a, b, c) refl
 
 -- a long field is not `no`
@@ -133,9 +155,9 @@ long_not_word : (field : List ℕ) → 2 < length field → is_word refusal_word
 long_not_word field long = refuted (is_word refusal_word field) (λ e.
     let two : length field ≡ 2 = ap length (same_text field refusal_word (sym e)) in omega arith)
 
-key_read : (field id x y : List ℕ) (key : NewKey) → field ≡ id ++ 32 ∷ (x ++ 32 ∷ y) → IsHexOf id 32 key.id
-    → IsHexOf x 32 key.x → IsHexOf y 32 key.y → parsed_new_key field ≡ Some (Key (Some key))
-key_read field id x y key e a b c = search (arith, decode_sized-ok, length-append, long_not_word, key_fields)
+key_read : (field id x y : List ℕ) (pair : NewKey) → field ≡ id ++ 32 ∷ (x ++ 32 ∷ y) → IsHexOf id 32 pair.id
+    → IsHexOf x 32 pair.x → IsHexOf y 32 pair.y → parsed_new_key field ≡ Some (Key (Some pair))
+key_read field id x y pair e a b c = search (arith, decode_sized-ok, length-append, long_not_word, key_fields)
 
 signature_bytes : (field bytes : List ℕ) → IsHexOf field (length bytes) bytes → 1 ≤ length bytes → length bytes ≤ 72
     → parsed_signature_bytes field ≡ Some bytes
@@ -162,9 +184,9 @@ input_read line at Tick fits h = search (arith, moment_of)
 input_read line at (Packet packet) fits h = grind (arith, line_read 62, packet_read h.0 packet.0 h.2)
 input_read line at (Presence answer) fits h = grind (arith, line_read 112, presence_read h.0 answer h.2)
 input_read line at (Key None) fits h = ap parsed h.1 ∙ line_read 107 at h.0 (Key None) fits (refused_key h.0 h.2)
-input_read line at (Key (Some key)) fits h =
+input_read line at (Key (Some pair)) fits h =
     let f = h.2 in
-    ap parsed h.1 ∙ line_read 107 at h.0 (Key (Some key)) fits (key_read h.0 f.0 f.1 f.2 key f.3 f.4 f.5 f.6)
+    ap parsed h.1 ∙ line_read 107 at h.0 (Key (Some pair)) fits (key_read h.0 f.0 f.1 f.2 pair f.3 f.4 f.5 f.6)
 input_read line at (Signature None) fits h = grind (arith, line_read 115, refused_signature h.0 h.2)
 input_read line at (Signature (Some bytes)) fits h =
     let f = h.2 in
@@ -199,11 +221,11 @@ presence_is : (field : List ℕ) (input : AnyInput) (a b c : Bool) → is_word (
     ≡ Some input → IsSpelled 112 field input
 presence_is field input a b c h k l r = search (arith, some_is, same_text)
 
-new_key_is : (field : List ℕ) (key : NewKey) → parsed_key_pair field ≡ Some key → IsFieldText field (Key (Some key))
-new_key_is field key e = search (arith, bind_is, fields_are, some_is)
+new_key_is : (field : List ℕ) (pair : NewKey) → parsed_key_pair field ≡ Some pair → IsFieldText field (Key (Some pair))
+new_key_is field pair e = search (arith, bind_is, fields_are, some_is)
 
 key_is : (field : List ℕ) (input : AnyInput) (a : Bool) → is_word refusal_word field ≡ a
-    → cond a (Some (Key None)) (parsed_key_pair field >>= (λ key. Some (Key (Some key)))) ≡ Some input
+    → cond a (Some (Key None)) (parsed_key_pair field >>= (λ pair. Some (Key (Some pair)))) ≡ Some input
     → IsSpelled 107 field input
 key_is field input a h k = search (arith, some_is, same_text, bind_is, new_key_is)
 
@@ -258,3 +280,151 @@ spells_nothing line h = no_some (parsed line) (λ l e. h l (read_is_spelled line
 
 pub reads_nothing : (line : List ℕ) (l : Line) → parsed line ≡ None → IsLogLineText line l → ⊥
 reads_nothing line l e h = cc (sym e ∙ spelled_is_read line l h)
+
+-- ---- digits are read one at a time
+
+-- of the digits `all`, those before `rest` write n
+pub record SoFar (all rest : List ℕ) (n : ℕ) : Type 0 where
+  pub fits : n < 2 ^ 64
+  pub value : digits_value_after 10 n rest ≡ digits_value 10 all
+  pub on : AllDigits 10 all → AllDigits 10 rest
+  pub back : AllDigits 10 rest → AllDigits 10 all
+
+grows : (n : ℕ) (ds : List ℕ) → n ≤ digits_value_after 10 n ds
+grows n [] = omega arith
+grows n (c ∷ cs) = omega (arith, grows (n * 10 + digit_value c) cs)
+
+module _ (ds : List ℕ) (i n : ℕ) (so_far : SoFar ds (drop i ds) n) where
+  module _ (inside : i < length ds) where
+    opened : SoFar ds (get_or ds i 0 ∷ drop (i + 1) ds) n
+    opened = subst (λ (rest : List ℕ). SoFar ds rest n) (drop_more ds i 0 inside) so_far
+
+    -- what is written is no less than with one digit more
+    pub at_least : n * 10 + digit_value (get_or ds i 0) ≤ digits_value 10 ds
+    at_least = search (arith, opened, grows)
+
+-- where no zero stands before other digits, the number that is read has this text
+pub moment_read : (ds : List ℕ) (r : Option ℕ) → 0 < length ds → ((2 ≤ length ds) × (get_or ds 0 0 ≡ 48) → ⊥)
+    → SomeIff r (AllDigits 10 ds × (digits_value 10 ds ≤ 2 ^ 64 - 1)) (digits_value 10 ds) → r ≡ moment ds
+moment_read ds None some padded h = search (arith, no_moment, decimal_is_IsNumeral)
+moment_read ds (Some n) some padded h =
+    let fits : digits_value 10 ds < 2 ^ 64 = omega (arith, h.0.1) in
+    let single : get_or ds 0 0 ≡ 48 → length ds ≡ 1 =
+    λ zero_first. omega (arith, some, λ (two : 2 ≤ length ds). padded (two, zero_first)) in
+    let text = decimal-digits_value (numerals_by_value _ tells_digits) ds h.0.0 some single fits in
+    sym (moment_of ds n (omega (arith, h.1)) (sym text ∙ ap decimal (sym h.1)))
+
+pub no_empty_moment : (ds : List ℕ) → length ds ≡ 0 → moment ds ≡ None
+no_empty_moment ds empty = no_moment ds (λ n fits e. omega (arith, decimal_nonempty n fits, ap length e))
+
+-- a number over zero has no zero in front
+pub no_padded_moment : (ds : List ℕ) → get_or ds 0 0 ≡ 48 → 2 ≤ length ds → moment ds ≡ None
+no_padded_moment ds zero_first two = search (arith, no_moment, decimal_digit, first_decimal)
+
+-- at the end all digits are read
+pub all_read : (ds : List ℕ) (i n : ℕ) → SoFar ds (drop i ds) n → length ds ≤ i
+    → (AllDigits 10 ds × (digits_value 10 ds ≤ 2 ^ 64 - 1)) × (n ≡ digits_value 10 ds)
+all_read ds i n so_far end = search (arith, drop_of_length-le)
+
+-- ---- bytes in pieces of 96, and the lines of what is needed
+
+-- as many as it takes
+pub one_less : (n m : ℕ) → 0 < n → m ≡ n - 96 → (n + 95) / 96 ≡ suc ((m + 95) / 96)
+one_less n m some less = omega (arith, some, less)
+
+pub pieces_more : (bytes : List ℕ) → 0 < length bytes → pieces_of bytes
+    ≡ take (min 96 (length bytes)) bytes ∷ pieces_of (drop (min 96 (length bytes)) bytes)
+pieces_more bytes some = search (arith, one_less, length-drop, take_min, drop_min)
+
+-- joined they are the bytes
+chunks_joined : (k : ℕ) (bytes : List ℕ) → length bytes ≤ 96 * k → flat_map (λ piece. piece) (first_chunks 96 k bytes)
+    ≡ bytes
+chunks_joined zero [] fits = refl
+chunks_joined zero (b ∷ more) fits = absurd (omega (arith, fits))
+chunks_joined (suc k) bytes fits =
+    ap (λ t. take 96 bytes ++ t) (chunks_joined k (drop 96 bytes) (omega (arith, fits, length-drop 96 bytes)))
+    ∙ take-append-drop 96 bytes
+
+pub pieces_joined : (bytes : List ℕ) → flat_map (λ piece. piece) (pieces_of bytes) ≡ bytes
+pieces_joined bytes = chunks_joined ((length bytes + 95) / 96) bytes (omega arith)
+
+chunks_short : (k : ℕ) (bytes : List ℕ) → All (λ piece. length piece ≤ 96) (first_chunks 96 k bytes)
+chunks_short zero bytes = All-nil (λ piece. length piece ≤ 96)
+chunks_short (suc k) bytes =
+    All-cons (λ piece. length piece ≤ 96) (take 96 bytes) (first_chunks 96 k (drop 96 bytes))
+    (omega (arith, length-take 96 bytes)) (chunks_short k (drop 96 bytes))
+
+pub pieces_short : (bytes : List ℕ) → All (λ piece. length piece ≤ 96) (pieces_of bytes)
+pieces_short bytes = chunks_short ((length bytes + 95) / 96) bytes
+
+-- their lines don't say what is needed
+none_says : (pieces : List (List ℕ)) → All (λ line. reports_need line ≡ false) (map signed_line pieces)
+none_says [] = All-nil (λ line. reports_need line ≡ false)
+none_says (piece ∷ more) = search (arith, All-cons, none_says more)
+
+pub last_says : (n : Needed) → (before : List (List ℕ)) × (last : List ℕ) × (need_lines n ≡ before ++ last ∷ [])
+    × (reports_need last ≡ true) × All (λ line. reports_need line ≡ false) before
+last_says (sign id signed) =
+    (map signed_line (pieces_of signed), signature_need_line id, refl, refl, none_says (pieces_of signed))
+last_says n = ([], _, refl, refl, All-nil (λ line. reports_need line ≡ false))
+
+-- The lines that tell what is needed are comments, and short.
+
+-- no digit is a line feed, whatever the byte
+
+from_digits : (ds : List ℕ) → feedless ds ≡ true → (n : ℕ) → is_line_feed (slice_index ds n) ≡ false
+from_digits [] h n = refl
+from_digits (d ∷ ds) h zero = (both (is_line_feed d) (feedless ds) h).0
+from_digits (d ∷ ds) h (suc n) = from_digits ds (both (is_line_feed d) (feedless ds) h).1 n
+
+pub encoded_feedless : (bytes : List ℕ) → feedless (encode_lower bytes) ≡ true
+unfolding encode_with
+encoded_feedless [] = refl
+encoded_feedless (b ∷ more) = search (arith, from_digits, encoded_feedless more)
+
+-- each is a line of a log
+
+pub record IsTold (line : List ℕ) : Type 0 where
+  pub feedless : feedless line ≡ true
+  pub sound : IsSound line
+  pub parsed : parsed line ≡ Some Comment
+  pub tells : is_need_line line ≡ true
+
+abbrev pub AreTold : List (List ℕ) → Type 0
+AreTold [] = Unit {0}
+AreTold (line ∷ more) = IsTold line × AreTold more
+
+AreTold-append : (xs ys : List (List ℕ)) → AreTold xs → AreTold ys → AreTold (xs ++ ys)
+AreTold-append [] ys h k = k
+AreTold-append (x ∷ xs) ys h k = (h.0, AreTold-append xs ys h.1 k)
+
+told : (line : List ℕ) → feedless line ≡ true → length line < 256 → parsed line ≡ Some Comment → is_need_line line ≡ true
+    → IsTold line
+told line whole short is tells = search (arith, feedless)
+
+signed_told : (bytes : List ℕ) → length bytes ≤ 96 → IsTold (signed_line bytes)
+signed_told bytes few = search (arith, told, feedless-append, encoded_feedless, length-append, length-encode_with)
+
+signature_told : (id : List ℕ) → length id ≡ 32 → IsTold (signature_need_line id)
+signature_told id is =
+    grind (
+      arith,
+      encoded_feedless id,
+      length-append (codes "# need signature ") (encode_lower id),
+      length-encode_with lower_digits id,
+    )
+
+chunks_told : (k : ℕ) (bytes : List ℕ) → AreTold (map signed_line (first_chunks 96 k bytes))
+chunks_told zero bytes = tt
+chunks_told (suc k) bytes =
+    (signed_told (take 96 bytes) (omega (arith, length-take 96 bytes)), chunks_told k (drop 96 bytes))
+
+pub needs_told : (n : Needed) → IsValidNeed n → AreTold (need_lines n)
+needs_told nothing h = (told (codes "# need nothing") refl (omega arith) refl refl, tt)
+needs_told presence h = (told (codes "# need presence") refl (omega arith) refl refl, tt)
+needs_told key h = (told (codes "# need key") refl (omega arith) refl refl, tt)
+needs_told (sign id signed) h = search (arith, AreTold-append, chunks_told, signature_told)
+
+pub told_are : (ls : List (List ℕ)) → AreTold ls → AreLines ls
+told_are [] h = tt
+told_are (line ∷ more) h = (h.0.feedless, told_are more h.1)

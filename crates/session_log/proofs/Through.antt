@@ -1,14 +1,36 @@
--- What has been played when lines were read and played one by one.
-use Rattle.std.proofs.Common.{◌≡◌, ℕ, ◌+◌, ◌≤◌, ◌<◌, ◌^◌, nat_le, nat_lt, Bool, true, false, cond, List, [], ◌∷◌, ◌++◌}
-use Rattle.std.proofs.Common.{length, take, position, Option, Some, None, is_none, refl, sym, ap, ◌∙◌, arith}
-use Rattle.std.proofs.Common.{append_assoc, append-nil, length-append}
-use Rattle.std.proofs.lemmas.Bool.{le-leb, le-ltb, lt-leb, lt-ltb}
-use Rattle.session_log.specs.declared.fault.LogFault.{LogFault, TheVariants.TooLong, TheVariants.TooManyLines}
-use Rattle.session_log.specs.{Parsed.parsed, World.LineSemantics, Window.IsUnfinished, Sent.SendsPackets, Sent.AllSend}
-use Rattle.session_log.specs.{Lines.is_line_feed, Lines.pieces, Lines.lines, Log.line_text, Log.last_text, Log.state_after}
-use Rattle.session_log.specs.Log.{Played, with_text_before, played, play_all, output_of, first_fault, fault_of, parsed_line_fault, line_fault}
-use Rattle.session_log.specs.Replay.{IsRefused, IsUnread, IsUnwritten, IsPlayed}
+-- Lines that are read and played one by one, and how that ends.
+use Rattle.std.proofs.Common.{◌≡◌, ℕ, ◌+◌, ◌≤◌, ◌<◌, ◌^◌, nat_le, nat_lt, Bool, true, false, cond, List, [], ◌∷◌}
+use Rattle.std.proofs.Common.{◌++◌, length, take, position, Option, Some, None, is_none, refl, sym, ap, ◌∙◌, arith}
+use Rattle.std.proofs.Common.{append_assoc, append-nil, length-append, suc, ◌==◌, decimal, flat_map, ◌≢◌, OnOk}
+use Rattle.std.proofs.Common.{Result, Err, Ok, drop, take-append-drop}
+use Rattle.std.proofs.lemmas.Bool.{le-leb, le-ltb, lt-leb, lt-ltb, ne_eqb}
+use Rattle.session_log.specs.declared.fault.LogFault.{LogFault}
+use Rattle.session_log.specs.declared.fault.LogFault.TheVariants.{TooLong, TooManyLines, Read, Write}
+use Rattle.session_log.specs.Grammar.{parsed}
+use Rattle.session_log.specs.World.{LineSemantics}
+use Rattle.session_log.specs.Lines.{IsUnfinished, Stops, HasLine}
+use Rattle.session_log.specs.Replay.{SendsPackets, AllSend}
+use Rattle.session_log.specs.Lines.{is_line_feed, pieces, lines, lines_of_pieces}
+use Rattle.session_log.specs.Replay.{line_text, last_text, state_after, Played, with_text_before, played, play_all}
+use Rattle.session_log.specs.Replay.{output_of, first_fault, fault_of, parsed_line_fault, line_fault}
+use Rattle.session_log.specs.Replay.{IsRefused, IsUnread, IsUnwritten, IsPlayed, PlaysLine, IsDone, Plays}
 use Rattle.session_log.proofs.Cutting.{first_piece, one_piece, pieces_some, lines_beyond, front_of, last_is}
+use Rattle.session_log.proofs.Cutting.{last_line, line_in_front, short_front, some_line}
+use Rattle.std.proofs.lemmas.Fmt.{decimal_is_IsNumeral}
+use Rattle.std.proofs.lemmas.List.Splits.{slice_split-cons_yes, slice_split-cons_no}
+use Rattle.std.specs.Char.{digit_value}
+use Rattle.std.specs.Str.Parse.{AllDigits}
+use Rattle.std.specs.List.{AllPass, onto_first}
+use Rattle.hex.specs.Hex.{is_hex_digit}
+use Rattle.session_log.proofs.Cutting.{no_some}
+use Rattle.session_log.specs.World.{with_line_feed}
+use Rattle.session_log.specs.Replay.{Ending, ending_of_fault, read_fails, write_fails, ending_of}
+use Rattle.std.specs.Io.KnownBytes.{Consumes, Appends, Keeps}
+use Rattle.std.proofs.KnownBytes.{Appends-trans, Appends-kept, Consumes-trans}
+use Rattle.session_log.specs.Lines.{ReadsAndWrites, WritesAll, WriteFails}
+use Rattle.session_log.proofs.Cutting.{in_count}
+
+-- ---- what has been played when lines were read and played one by one
 
 -- The bytes read are whole lines, none of them faulty: this text was written for them, and the session stands at s
 -- before line n.
@@ -146,3 +168,243 @@ module _ {S : Type 0} (world : LineSemantics S) (n : ℕ) (s : S) (line : List �
 
   pub too_many : 2 ^ 32 ≤ n → line_fault world n s line ≡ Some TooManyLines
   too_many many = tests true (nat_lt 255 (length line)) (le-leb (2 ^ 32) n many) refl
+
+-- ---- lines with no line feed in them: what they are joined to is cut into them again
+
+abbrev pub feedless : List ℕ → Bool
+feedless [] = true
+feedless (x ∷ xs) = cond (is_line_feed x) false (feedless xs)
+
+abbrev pub AreLines : List (List ℕ) → Type 0
+AreLines [] = Unit {0}
+AreLines (line ∷ more) = (feedless line ≡ true) × AreLines more
+
+pub both : (b c : Bool) → cond b false c ≡ true → (b ≡ false) × (c ≡ true)
+both b c h = search arith
+
+pub joined : (b c : Bool) → b ≡ false → c ≡ true → cond b false c ≡ true
+joined b c h k = λ i. cond (h i) false (k i)
+
+pub feedless-append : (xs ys : List ℕ) → feedless xs ≡ true → feedless ys ≡ true → feedless (xs ++ ys) ≡ true
+feedless-append [] ys h k = k
+feedless-append (x ∷ xs) ys h k =
+    let parts = both (is_line_feed x) (feedless xs) h in
+    joined (is_line_feed x) (feedless (xs ++ ys)) parts.0 (feedless-append xs ys parts.1 k)
+
+pub AreLines-append : (xs ys : List (List ℕ)) → AreLines xs → AreLines ys → AreLines (xs ++ ys)
+AreLines-append [] ys h k = k
+AreLines-append (x ∷ xs) ys h k = (h.0, AreLines-append xs ys h.1 k)
+
+-- cutting what was joined
+
+cut_line : (line tail : List ℕ) → feedless line ≡ true → pieces (line ++ 10 ∷ tail) ≡ line ∷ pieces tail
+cut_line [] tail h = slice_split-cons_yes is_line_feed 10 tail refl
+cut_line (x ∷ xs) tail h =
+    let parts = both (is_line_feed x) (feedless xs) h in
+    slice_split-cons_no is_line_feed x (xs ++ 10 ∷ tail) parts.0 ∙ ap (onto_first x) (cut_line xs tail parts.1)
+
+pieces_joined : (ls : List (List ℕ)) → AreLines ls → pieces (flat_map with_line_feed ls) ≡ ls ++ [] ∷ []
+pieces_joined [] h = refl
+pieces_joined (line ∷ more) h = search (arith, append_assoc, cut_line, pieces_joined more h.1)
+
+pub lines_joined : (ls : List (List ℕ)) → AreLines ls → lines (flat_map with_line_feed ls) ≡ ls
+lines_joined ls h = ap lines_of_pieces (pieces_joined ls h) ∙ lines_beyond ls [] [] ∙ append-nil ls
+
+-- the lines of any bytes have no line feed
+
+pieces_are : (bytes : List ℕ) → AreLines (pieces bytes)
+pieces_are [] = (refl, tt)
+pieces_are (x ∷ xs) =
+    let some = pieces_some xs in
+    let h = pieces_are xs in
+    search (arith, slice_split-cons_yes, slice_split-cons_no, joined)
+
+last_are : (line : List ℕ) (b : Bool) → feedless line ≡ true → AreLines (cond b [] (line ∷ []))
+last_are line b h = search arith
+
+whole_are : (ps : List (List ℕ)) → AreLines ps → AreLines (lines_of_pieces ps)
+whole_are [] h = tt
+whole_are (p ∷ []) h = last_are p (length p == 0) h.0
+whole_are (p ∷ q ∷ more) h = (h.0, whole_are (q ∷ more) h.1)
+
+pub lines_are_lines : (bytes : List ℕ) → AreLines (lines bytes)
+lines_are_lines bytes = whole_are (pieces bytes) (pieces_are bytes)
+
+-- digits are no line feeds
+
+digit_no_feed : (c : ℕ) → digit_value c < 10 → is_line_feed c ≡ false
+digit_no_feed c h = search (arith, ne_eqb)
+
+digits_feedless : (ds : List ℕ) → AllDigits 10 ds → feedless ds ≡ true
+digits_feedless [] h = refl
+digits_feedless (c ∷ cs) h = joined (is_line_feed c) (feedless cs) (digit_no_feed c h.0) (digits_feedless cs h.1)
+
+pub decimal_feedless : (n : ℕ) → n < 2 ^ 64 → feedless (decimal n) ≡ true
+decimal_feedless n fits = digits_feedless (decimal n) (decimal_is_IsNumeral n fits).0.1
+
+hex_no_feed : (c : ℕ) → is_hex_digit c ≡ true → is_line_feed c ≡ false
+hex_no_feed c h = search (arith, ne_eqb)
+
+pub hex_feedless : (ds : List ℕ) → AllPass is_hex_digit ds → feedless ds ≡ true
+hex_feedless [] h = refl
+hex_feedless (c ∷ cs) h =
+    joined (is_line_feed c) (feedless cs) (hex_no_feed c (h 0 0 (omega arith)))
+    (hex_feedless cs (λ k d l. h (suc k) d (omega arith)))
+
+-- Lines that aren't faulty.
+
+pub record IsSound (line : List ℕ) : Type 0 where
+  pub short : length line < 256
+  pub says : parsed line ≢ None
+
+pub sound_line : {S : Type 0} (world : LineSemantics S) (n : ℕ) (s : S) (line : List ℕ) → line_fault world n s line ≡ None
+    → IsSound line
+sound_line world n s line h = search arith
+
+pub sound_first : {S : Type 0} (world : LineSemantics S) (n : ℕ) (s : S) (line : List ℕ) (more : List (List ℕ))
+    → (played world n s (line ∷ more)).fault ≡ None → line_fault world n s line ≡ None
+sound_first {S} world n s line more h = search (arith, no_some, played_faulty)
+
+-- ---- of each way in which the playing of lines ends: what holds at Ok alone, and the failures that it counts
+
+pub on_err : {A : Type 0} (X : Type 0) (r : Result A LogFault) (e : LogFault) → r ≡ Err e → OnOk r X
+on_err X r e h = cc
+
+pub on_any : {A X : Type 0} (r : Result A LogFault) → X → OnOk r X
+on_any r h = search arith
+
+pub on_ok : {A X Y : Type 0} (r : Result A LogFault) → (X → Y) → OnOk r X → OnOk r Y
+on_ok r h k = search arith
+
+-- a count of failures goes on from where it stood before
+pub counts_on : (a b k : ℕ) (fails : Bool) → a ≡ b → k ≡ cond fails (a + 1) a → k ≡ cond fails (b + 1) b
+counts_on a b k fails is h = rw (sym is) h
+
+-- nothing failed, so the count stays
+pub counts_none : (a b : ℕ) (fails : Bool) → fails ≡ false → b ≡ a → b ≡ cond fails (a + 1) a
+counts_none a b fails none is = is ∙ ap (λ (f : Bool). cond f (a + 1) a) (sym none)
+
+-- where no line can be read, no write failed
+pub stops_unwritten : (n : ℕ) (w : List ℕ) (e : LogFault) → Stops n w e → write_fails (ending_of_fault e) ≡ false
+stops_unwritten n w e h = search arith
+
+-- where a line is played, no read fails, and a write fails exactly where its text breaks off
+pub plays_unread : {S F : Type 0} (world : LineSemantics S) (taken : F → Option (List ℕ)) (failed : F
+    → ℕ) (n : ℕ) (s t : S) (line : List ℕ) (target : F × F) (q : Ending)
+    → PlaysLine world taken failed n s t line target q → read_fails q ≡ false
+plays_unread world taken failed n s t line target q h = search arith
+
+pub plays_counts : {S F : Type 0} (world : LineSemantics S) (taken : F → Option (List ℕ)) (failed : F
+    → ℕ) (n : ℕ) (s t : S) (line : List ℕ) (target : F × F) (q : Ending)
+    → PlaysLine world taken failed n s t line target q → failed target.1
+    ≡ cond (write_fails q) (failed target.0 + 1) (failed target.0)
+plays_counts world taken failed n s t line target q h = search arith
+
+-- ---- each way in which the playing of lines ends
+
+-- more was read into the window
+pub read_on : (a b c : Option (List ℕ)) (read w w' : List ℕ) → Consumes a b (read ++ w)
+    → ((more : List ℕ) × (w' ≡ w ++ more) × Consumes b c more) → Consumes a c (read ++ w')
+read_on a b c read w w' p m = search (arith, append_assoc, Consumes-trans)
+
+-- the line in front is short
+pub short_in_front : (w : List ℕ) (n end : ℕ) → HasLine n w end → length (take end w) < 256
+short_in_front w n end has = short_front w (take end w) end refl has.within has.short
+
+-- What was read is played up to the window w, and this text for it is written.
+module _ {S : Type 0} {world : LineSemantics S} {s0 s : S} {read text : List ℕ} {n : ℕ}
+    (through : Through world s0 read text s n)
+    (left left' start : Option (List ℕ)) (w : List ℕ) (p : Consumes left left' (read ++ w)) where
+  -- no line could be read
+  pub stops_reading : (taken : Option (List ℕ)) (e : LogFault) → Appends start taken text → Stops n w e
+      → ReadsAndWrites left left' start taken (λ bytes text. Plays world s0 s bytes text (ending_of_fault e))
+  stops_reading taken TooManyLines q h =
+      let some = some_line w h.1 in
+      (read ++ w, text, p, q, refused through w some.0 some.1 TooManyLines some.2 (too_many world n s some.0 h.0))
+  stops_reading taken (TooLong m) q h =
+      let bad = too_long world n s w h.1 (omega (arith, h.3)) in
+      let found = refused through w w [] (TooLong n) (last_line w h.2 (omega (arith, h.3))) bad in
+      (read ++ w, text, p, q, rw h.0 found)
+  stops_reading taken (Read m) q h = let found = unread through w h.1 in (read ++ w, text, p, q, rw h.0 found)
+  stops_reading taken e q h = absurd h
+
+  module _ {F : Type 0} (taken : F → Option (List ℕ)) (failed : F → ℕ) (target : F × F) (t : S)
+      (q : Appends start (taken target.0) text) where
+    module _ (line : List ℕ) (more : List (List ℕ)) (first : lines w ≡ line ∷ more) (short : length line < 256)
+        (few : n < 2 ^ 32) where
+      -- the line was faulty, and nothing was written for it
+      stops_faulty : (fault : LogFault) → parsed_line_fault world n s (parsed line) ≡ Some fault → t ≡ s
+          → Keeps (taken target.0) (taken target.1)
+          → ReadsAndWrites left left' start (taken target.1) (λ bytes text. IsRefused world s0 t bytes text fault)
+      stops_faulty fault bad stays kept =
+          let found = refused through w line more fault first (said_fault world n s line few short ∙ bad) in
+          (read ++ w, text, p, Appends-kept start (taken target.0) (taken target.1) text q kept, rw stays found)
+
+      -- the line was faulty, or its text broke off
+      pub stops_at_line : (e : LogFault) → PlaysLine world taken failed n s t line target (ending_of_fault e)
+          → ReadsAndWrites left left' start (taken target.1) (λ bytes text. Plays world s0 t bytes text (ending_of_fault e))
+      stops_at_line (Read m) h = absurd h
+      stops_at_line Write h =
+          let broken = h.2.0 in
+          let sound = said_fault world n s line few short ∙ h.0 in
+          let found = unwritten through w line more broken.0 broken.1 first sound broken.2 broken.3 in
+          let all = Appends-trans start (taken target.0) _ text broken.0 q broken.4 in
+          (read ++ w, text ++ broken.0, p, all, rw h.1 found)
+      stops_at_line fault h = stops_faulty fault h.0 h.1 h.2
+
+    module _ (end : ℕ) (has : HasLine n w end) where
+      -- the line in front was played
+      pub goes_on : (rest : List ℕ) → rest ≡ drop (end + 1) w → parsed_line_fault world n s (parsed (take end w)) ≡ None
+          → t ≡ state_after world s (take end w) → SendsPackets world s (parsed (take end w))
+          → WritesAll taken failed target (line_text world s (take end w))
+          → (read' : List ℕ) × (text' : List ℕ) × Consumes left left' (read' ++ rest)
+          × Appends start (taken target.1) text' × Through world s0 read' text' t (n + 1)
+      goes_on rest is_rest sound stood packets wrote =
+          let line = take end w in
+          let whole : read ++ w ≡ (read ++ take (end + 1) w) ++ rest = simp (is_rest, append_assoc, take-append-drop) in
+          let faultless = said_fault world n s line has.counted (short_in_front w n end has) ∙ sound in
+          let found = through_line through w end has.feed faultless packets in
+          let text' = Appends-trans start (taken target.0) (taken target.1) text (line_text world s line) q wrote.0 in
+          (read ++ take (end + 1) w, text ++ line_text world s line, rw whole at p, text', rw stood found)
+
+      -- the line in front was faulty, or its text broke off
+      pub stops_in_front : (e : LogFault) → PlaysLine world taken failed n s t (take end w) target (ending_of_fault e)
+          → ReadsAndWrites left left' start (taken target.1) (λ bytes text. Plays world s0 t bytes text (ending_of_fault e))
+      stops_in_front =
+          stops_at_line (take end w) (lines (drop (end + 1) w)) (line_in_front w end has.feed)
+          (short_in_front w n end has) has.counted
+
+    -- the last piece was played, or wasn't
+    pub ends : {A : Type 0} (r : Result A LogFault) → IsUnfinished n w → 0 < length w
+        → PlaysLine world taken failed n s t w target (ending_of r)
+        → ReadsAndWrites left left' start (taken target.1) (λ bytes text. Plays world s0 t bytes text (ending_of r))
+    ends (Ok x) u more h =
+        let sound = said_fault world n s w (in_count n w u.counted more) u.short ∙ h.0 in
+        let found = played_last through w (last_line w u.no_feed more) sound h.2 in
+        let all = Appends-trans start (taken target.0) (taken target.1) text (line_text world s w) q h.3.0 in
+        (read ++ w, text ++ line_text world s w, p, all, rw h.1 found)
+    ends (Err e) u more h = stops_at_line w [] (last_line w u.no_feed more) u.short (in_count n w u.counted more) e h
+
+pub some_left : (n : ℕ) → (n ≡ 0 → ⊥) → 0 < n
+some_left n h = search arith
+
+-- All lines are played, and nothing is wrong after the last one.
+module _ {S F : Type 0} {world : LineSemantics S} {s0 s : S} {bytes text : List ℕ} (taken : F → Option (List ℕ))
+    (failed : F → ℕ) (left left' start : Option (List ℕ)) (target : F × F) (p : Consumes left left' bytes)
+    (q : Appends start (taken target.0) text) (whole : IsPlayed world s0 s bytes text) (none : world.lacks s ≡ None)
+  where
+    last : last_text world s ≡ world.ending s
+    last = ap (λ (o : Option LogFault). cond (is_none o) (world.ending s) []) none
+
+    -- the text after the last line was written
+    pub closes : WritesAll taken failed target (world.ending s)
+        → ReadsAndWrites left left' start (taken target.1) (λ b t. IsDone world s0 s b t × AllSend world s0 (lines b))
+    closes wrote = search (arith, Appends-trans, first_is_last, last)
+
+    -- it broke off
+    pub closes_not : WriteFails taken failed target (world.ending s)
+        → ReadsAndWrites left left' start (taken target.1) (λ b t. IsUnwritten world s0 s b t)
+    closes_not broken =
+        let off = broken.0 in
+        let found = unwritten_end world s0 s bytes text off.0 off.1 whole (last ∙ off.2) off.3 in
+        (bytes, text ++ off.0, p, Appends-trans start (taken target.0) (taken target.1) text off.0 q off.4, found)

@@ -7,9 +7,9 @@ use Rattle.token_session.specs.Meters.{SessionState, IsStateAfter}
 use Rattle.session_log.specs.declared.{command.ReplayMode.ReplayMode, fault.LogFault.LogFault}
 use Rattle.session_log.specs.declared.command.ReplayMode.TheVariants.{Check, Live, Quiet, Replay}
 use Rattle.session_log.specs.{Check.first_comparison, Check.check_history, World.LineSemantics, Replay.PlaysWholeLog, Replay.ReadsTo}
-use Rattle.session_log.specs.Ending.{ending_of, read_fails, write_fails}
-use Rattle.session_log.specs.Session.{history, live_history, quiet_history}
-use Rattle.session_log.specs.Streams.{Counts, IsAtEndOfInput, ReadsAndWrites}
+use Rattle.session_log.specs.Replay.{ending_of, read_fails, write_fails}
+use Rattle.session_log.specs.Replay.{history, live_history, quiet_history}
+use Rattle.session_log.specs.Lines.{Counts, IsAtEndOfInput, ReadsAndWrites}
 
 -- The start of the program's session: an AAGUID of sixteen zero bytes, time 0, capacity for 64 credentials, and no
 -- credentials.
@@ -24,7 +24,7 @@ start_with rows = record program_start { rows = rows }
 abbrev pub Status : Type 0
 Status = Result (Unit {0}) ℕ
 
--- The exit status for a result: 1 for an error in the log.
+-- The exit status for a result: 1 for any error.
 abbrev pub status_of : {A : Type 0} → Result A LogFault → Status
 status_of (Ok x) = Ok tt
 status_of (Err fault) = Err 1

@@ -1,13 +1,227 @@
--- What each result of a call that plays a log means.
-use Rattle.std.specs.Prelude.{◌≡◌, ℕ, ◌+◌, ◌<◌, ◌≤◌, ◌^◌, List, [], ◌∷◌, ◌++◌, length, take, Option, Some, None, Result}
-use Rattle.std.specs.{Prelude.IfOk, Prelude.OnOk, Prelude.◌⊎◌, Io.KnownBytes.Consumes, Io.KnownBytes.Keeps}
+-- The output of a call that plays a log, and what its result means.
+use Rattle.std.specs.Prelude.{ℕ, ◌+◌, ◌^◌, nat_le, nat_lt, List, [], ◌∷◌, ◌++◌, length, Option, Some, None, is_some}
+use Rattle.std.specs.Prelude.{is_none, if◌then◌else◌, ◌≡◌, ◌<◌, Bool, true, false, Result, Ok, Err, ◌≤◌, take, IfOk}
+use Rattle.std.specs.Prelude.{OnOk, ◌⊎◌}
+use Rattle.session_log.specs.declared.fault.LogFault.{LogFault}
+use Rattle.session_log.specs.declared.line.Line.{Line}
+use Rattle.session_log.specs.declared.fault.LogFault.TheVariants.{BadLine, TooLong, TooManyLines, Memory, Differs}
+use Rattle.session_log.specs.declared.fault.LogFault.TheVariants.{Read, Write}
+use Rattle.session_log.specs.Lines.{lines, whole_lines, last_piece, WritesAll, WriteFails}
+use Rattle.session_log.specs.Grammar.{parsed}
+use Rattle.session_log.specs.World.{LineSemantics, InputSemantics, replay_world, quiet_world, live_world}
+use Rattle.std.specs.Io.KnownBytes.{Appends, Consumes, Keeps}
+use Rattle.authn_core.specs.Turn.{Start}
+use Rattle.authn_core.specs.Views.{Needed, needs}
+use Rattle.token_session.specs.Answered.{packets_sent_now}
+use Rattle.token_session.specs.declared.input.Timed.{Timed}
+use Rattle.token_session.specs.History.{sent_now, core, receive, received}
+use Rattle.token_session.specs.Noise.{is_noise_at, is_noise_after}
+use Rattle.token_session.specs.Meters.{SessionState, stepped, input_packets_of, meters_of}
 use Rattle.token_session.specs.declared.input.Meters.{Meters}
-use Rattle.session_log.specs.declared.fault.LogFault.{LogFault, TheVariants.Memory}
-use Rattle.session_log.specs.declared.fault.LogFault.TheVariants.{BadLine, TooLong, Differs, Read, Write, TooManyLines}
-use Rattle.session_log.specs.Ending.{Ending, Done, Refused, Unread, Unwritten, ending_of}
-use Rattle.session_log.specs.{Lines.lines, Lines.whole_lines, Lines.last_piece, Streams.WritesAll, Streams.WriteFails}
-use Rattle.session_log.specs.Log.{played, play_all, log, line_text, last_text, state_after, parsed_line_fault, fault_of}
-use Rattle.session_log.specs.{Parsed.parsed, World.LineSemantics, Sent.SendsPackets, Sent.AllSend}
+
+-- ---- the output log, as a function of the input log
+
+-- The text for a parsed line.
+abbrev pub parsed_line_text : {S : Type 0} → LineSemantics S → S → List ℕ → Option Line → List ℕ
+parsed_line_text world s line None = []
+parsed_line_text world s line (Some l) = world.writes s line l
+
+-- The text for a line.
+abbrev pub line_text : {S : Type 0} → LineSemantics S → S → List ℕ → List ℕ
+line_text world s line = parsed_line_text world s line (parsed line)
+
+-- The state after a parsed line.
+abbrev pub state_after_parsed : {S : Type 0} → LineSemantics S → S → Option Line → S
+state_after_parsed world s None = s
+state_after_parsed world s (Some l) = world.moves s l
+
+-- The state after a line.
+abbrev pub state_after : {S : Type 0} → LineSemantics S → S → List ℕ → S
+state_after world s line = state_after_parsed world s (parsed line)
+
+-- The error of line `n`, if any, from its parsed form: it is not a log line, or `world` rejects it.
+abbrev pub parsed_line_fault : {S : Type 0} → LineSemantics S → ℕ → S → Option Line → Option LogFault
+parsed_line_fault world n s None = Some (BadLine n)
+parsed_line_fault world n s (Some l) = world.stops s l
+
+-- The error of line `n`, if any. A log has at most 2^32-1 lines, and a line has at most 255 bytes.
+abbrev pub line_fault : {S : Type 0} → LineSemantics S → ℕ → S → List ℕ → Option LogFault
+line_fault world n s line =
+    if nat_le (2 ^ 32) n then Some TooManyLines
+    else if nat_lt 255 (length line) then Some (TooLong n)
+    else parsed_line_fault world n s (parsed line)
+
+-- The result of playing lines: the text for the lines before the first invalid line, the error of that line, if any,
+-- and the state after the valid lines.
+pub record Played (S : Type 0) : Type 0 where
+  pub text : List ℕ
+  pub fault : Option LogFault
+  pub state : S
+
+-- The result with a text inserted before its text.
+abbrev pub with_text_before : {S : Type 0} → List ℕ → Played S → Played S
+with_text_before text p = record { text = text ++ p.text; fault = p.fault; state = p.state }
+
+-- The result of playing lines. `n` is the number of the first line.
+abbrev pub played : {S : Type 0} → LineSemantics S → ℕ → S → List (List ℕ) → Played S
+played world n s [] = record { text = []; fault = None; state = s }
+played world n s (line ∷ more) =
+    if is_some (line_fault world n s line) then record { text = []; fault = line_fault world n s line; state = s }
+    else with_text_before (line_text world s line) (played world (n + 1) (state_after world s line) more)
+
+-- The result of playing all lines of the bytes.
+abbrev pub play_all : {S : Type 0} → LineSemantics S → S → List ℕ → Played S
+play_all world s bytes = played world 1 s (lines bytes)
+
+-- The text after the last line.
+abbrev pub last_text : {S : Type 0} → LineSemantics S → S → List ℕ
+last_text world s = if is_none (world.lacks s) then world.ending s else []
+
+-- The whole output: the texts of the lines and, if no line is invalid, the text after the last line.
+abbrev pub output_of : {S : Type 0} → LineSemantics S → Played S → List ℕ
+output_of world p = p.text ++ (if is_none p.fault then last_text world p.state else [])
+
+-- The first of two errors, if any: that of a line, or else that at the end of the log.
+abbrev pub first_fault : (last line : Option LogFault) → Option LogFault
+first_fault None line = line
+first_fault (Some fault) None = Some fault
+first_fault (Some fault) (Some first) = Some first
+
+-- The first error of playing a log, if any.
+abbrev pub fault_of : {S : Type 0} → LineSemantics S → Played S → Option LogFault
+fault_of world p = first_fault (world.lacks p.state) p.fault
+
+-- The output for a whole log.
+abbrev pub log : {S : Type 0} → LineSemantics S → S → List ℕ → List ℕ
+log world s bytes = output_of world (play_all world s bytes)
+
+-- ---- the semantics of log lines on a session's state, and on a history
+
+-- The effect of inputs on a session's state.
+abbrev pub session_semantics : InputSemantics SessionState
+session_semantics = record { turned = λ s x. stepped s x; sends = λ s x. input_packets_of s x; counts = λ s. s.meters }
+
+-- The effect of inputs on a history, which is the list of all inputs, newest first. The packets and the meters are
+-- those that the history defines.
+abbrev pub history_semantics : Start → InputSemantics (List Timed)
+history_semantics start = record {
+  turned = λ h x. x ∷ h;
+  sends = λ h x. sent_now start h x;
+  counts = λ h. meters_of start (received start h);
+}
+
+-- Replaying a log on a session's state.
+abbrev pub machine : LineSemantics SessionState
+machine = replay_world session_semantics
+
+-- Replaying a log on a history.
+abbrev pub history : Start → LineSemantics (List Timed)
+history start = replay_world (history_semantics start)
+
+-- Like `history_semantics`, with packets whose definition uses only the start and the inputs, not an authenticator's
+-- state.
+abbrev pub exchange_semantics : Start → InputSemantics (List Timed)
+exchange_semantics start = record {
+  turned = λ h x. x ∷ h;
+  sends = λ h x. packets_sent_now start h x;
+  counts = λ h. meters_of start (received start h);
+}
+
+-- Replaying a log on a history, with packets whose definition uses only the start and the inputs.
+abbrev pub replay_exchanges : Start → LineSemantics (List Timed)
+replay_exchanges start = replay_world (exchange_semantics start)
+
+-- Replacing noise by ticks in a log, from a session's state.
+abbrev pub quiet_machine : LineSemantics SessionState
+quiet_machine = quiet_world session_semantics (λ s x. is_noise_at s.machine x)
+
+-- Replacing noise by ticks in a log, from a history.
+abbrev pub quiet_history : Start → LineSemantics (List Timed)
+quiet_history start = quiet_world (history_semantics start) (λ h x. is_noise_after start (receive start x (received start h))
+    (received start h))
+
+-- What the pending request of a session needs.
+abbrev pub session_needs : SessionState → Needed
+session_needs s = needs s.machine.core.state.work
+
+-- What the pending request after a history needs.
+abbrev pub history_needs : Start → List Timed → Needed
+history_needs start h = needs (core start (received start h)).state.work
+
+-- Replaying a log as `live` does, with what the pending request needs, on a session's state.
+abbrev pub live_machine : LineSemantics SessionState
+live_machine = live_world session_semantics session_needs
+
+-- Replaying a log as `live` does, with what the pending request needs, on a history.
+abbrev pub live_history : Start → LineSemantics (List Timed)
+live_history start = live_world (history_semantics start) (history_needs start)
+
+-- The text that was written to the target is a log with the same output from state `s`, unless it has 2^32 or more
+-- lines.
+abbrev pub RepeatsIn : LineSemantics SessionState → Option (List ℕ) → Option (List ℕ) → SessionState → Type 0
+RepeatsIn world taken taken' s = (text : List ℕ) × Appends taken taken' text
+    × (length (lines text) < 2 ^ 32 → log world s text ≡ text)
+
+-- Like `RepeatsIn`, for a replay on a session's state.
+abbrev pub Repeats : Option (List ℕ) → Option (List ℕ) → SessionState → Type 0
+Repeats = RepeatsIn machine
+
+-- ---- a condition on all packets that are written while lines are played
+
+-- For a parsed line, the condition on the packets that are sent is true.
+abbrev pub SendsPackets : {S : Type 0} → LineSemantics S → S → Option Line → Type 0
+SendsPackets world s None = Unit {0}
+SendsPackets world s (Some l) = world.sound s l
+
+-- For each of these lines, the condition on the packets that are sent is true.
+abbrev pub AllSend : {S : Type 0} → LineSemantics S → S → List (List ℕ) → Type 0
+AllSend world s [] = Unit {0}
+AllSend world s (line ∷ more) = SendsPackets world s (parsed line) × AllSend world (state_after world s line) more
+
+-- Each of the meters is below 2^64.
+pub record FitsMeters (m : Meters) : Type 0 where
+  pub held : m.held < 2 ^ 64
+  pub rows : m.rows < 2 ^ 64
+  pub pending : m.pending < 2 ^ 64
+  pub requests : m.requests < 2 ^ 64
+  pub bytes : m.bytes < 2 ^ 64
+  pub steps : m.steps < 2 ^ 64
+
+-- ---- how playing a log ends
+
+-- How playing a log ends: at the end of the log, at an invalid line, at a failed read in a line, or at a failed write.
+pub data Ending : Type 0 where
+  Done : Ending
+  Refused : (fault : LogFault) → Ending
+  Unread : (line : ℕ) → Ending
+  Unwritten : Ending
+
+-- The ending that this error causes.
+abbrev pub ending_of_fault : LogFault → Ending
+ending_of_fault (BadLine n) = Refused (BadLine n)
+ending_of_fault (TooLong n) = Refused (TooLong n)
+ending_of_fault (Differs line packet) = Refused (Differs line packet)
+ending_of_fault TooManyLines = Refused TooManyLines
+ending_of_fault (Memory n) = Refused (Memory n)
+ending_of_fault (Read n) = Unread n
+ending_of_fault Write = Unwritten
+
+-- The ending of a call that plays a log, from its result.
+abbrev pub ending_of : {A : Type 0} → Result A LogFault → Ending
+ending_of (Ok x) = Done
+ending_of (Err fault) = ending_of_fault fault
+
+-- Whether playing ended because a read of the source failed.
+abbrev pub read_fails : Ending → Bool
+read_fails (Unread n) = true
+read_fails _ = false
+
+-- Whether playing ended because a write to the target failed.
+abbrev pub write_fails : Ending → Bool
+write_fails Unwritten = true
+write_fails _ = false
+
+-- ---- what each result of a call that plays a log means
 
 -- No error occurred, and the output for the whole log was written.
 pub record IsDone {S : Type 0} (world : LineSemantics S) (s t : S) (bytes text : List ℕ) : Type 0 where

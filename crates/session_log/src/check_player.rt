@@ -3,7 +3,7 @@ ghost use Rattle.std.specs.Prelude.{◌≡◌, ◌<◌, ◌≤◌, ◌+◌, ◌-
 ghost use Rattle.session_log.specs.Check.{Compared, first_comparison, check_machine, log_comparison, due_packets};
 ghost use Rattle.session_log.specs.Command.{PlaysLog, PlaysThrough};
 ghost use Rattle.session_log.specs.declared.command.ReplayMode.TheVariants as commands;
-ghost use Rattle.session_log.specs.Ending.{ending_of};
+ghost use Rattle.session_log.specs.Replay.{ending_of};
 ghost use Rattle.session_log.specs.Replay.{PlaysWholeLog};
 ghost use Rattle.token_session.specs.declared.input.Timed.{Timed as OneInput};
 ghost use Rattle.authn_core.specs.Turn.{Start};

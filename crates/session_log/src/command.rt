@@ -3,7 +3,7 @@ ghost use Rattle.std.specs.Prelude.{◌≡◌, ◌<◌, ◌-◌, ◌^◌, List};
 ghost use Rattle.authn_core.specs.Turn.{Start};
 ghost use Rattle.token_session.specs.declared.input.Timed.{Timed as OneInput};
 ghost use Rattle.token_session.specs.Meters.{IsStateAfter};
-ghost use Rattle.session_log.specs.Streams.{OnlyAppends};
+ghost use Rattle.session_log.specs.Lines.{OnlyAppends};
 ghost use Rattle.session_log.specs.Command.{PlaysLog, without_meters};
 
 use crate::check_player::check;

@@ -1,6 +1,6 @@
 //! Log errors.
 ghost use Rattle.std.specs.Prelude.{◌≡◌};
-ghost use Rattle.session_log.specs.Numbers.{fault_number};
+ghost use Rattle.session_log.specs.Grammar.{fault_number};
 
 use thiserror::Error;
 
@@ -17,8 +17,8 @@ pub enum LogFault {
     /// 2: the line is longer than 255 bytes, without its line feed.
     #[error("line {0}: longer than 255 bytes")]
     TooLong(u64),
-    /// 3: a packet in the log differs from the packet that the session sent. `line` is that of the input, or 0 before
-    /// the first input.
+    /// 3: a packet in the log differs from the packet that the session sent, is missing or is one too many. `line` is
+    /// that of the input, or 0 before the first input.
     #[error("line {line}: differs at packet {packet}")]
     Differs {
         /// The input's line.
@@ -35,7 +35,7 @@ pub enum LogFault {
     /// 6: the log has more than 2^32-1 lines.
     #[error("too many lines")]
     TooManyLines,
-    /// 7: an allocation failed at this line.
+    /// 7: an allocation failed at this line. No command returns this error at present.
     #[error("line {0}: no memory")]
     Memory(u64),
 }

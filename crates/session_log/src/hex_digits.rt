@@ -4,7 +4,7 @@
 ghost use Rattle.std.specs.Prelude.{◌≡◌, ◌++◌, ◌*◌, ◌<◌, ◌≤◌, ℕ, true, length, replicate, slice_index};
 ghost use Rattle.std.specs.Prelude.{None, Some, MatchOption};
 ghost use Rattle.hex.specs.Hex.{encode_lower, hex_digit_value, lower_digits};
-ghost use Rattle.session_log.specs.Parsed.{decoded_bytes, value_below_16, AreValues};
+ghost use Rattle.session_log.specs.Grammar.{decoded_bytes, value_below_16, AreValues};
 
 /// Returns whether all bytes of a group equal `byte`.
 fn are_all<const N: usize>(group: &[u8; N], byte: u8) -> bool
@@ -145,6 +145,7 @@ pub fn encode_digits(bytes: &[u8], digits: &mut [u8])
 
 /// Encodes bytes as lowercase hexadecimal digits, two for each byte. The buffer `digits` must be filled with `0`
 /// digits.
+#[tactic(auto, using(crate::proofs::Decoding::written))]
 pub fn write_digits(bytes: &[u8], digits: &mut [u8])
     requires { digits.old ≡ replicate (2 * length bytes.now) 48 }
     ensures { digits.new ≡ encode_lower bytes.now }

@@ -4,17 +4,17 @@ ghost use Rattle.session_log.specs.declared.line.Line.{Line as AnyLine};
 ghost use Rattle.authn_core.specs.Turn.{Start};
 ghost use Rattle.authn_core.specs.Views.{Needed};
 ghost use Rattle.token_session.specs.declared.input.Timed.{Timed as OneInput};
-ghost use Rattle.token_session.specs.Law.{append_inputs};
+ghost use Rattle.token_session.specs.History.{append_inputs};
 ghost use Rattle.token_session.specs.Noise.{HasTicksForNoise};
 ghost use Rattle.session_log.specs.Check.{first_comparison, check_history};
 ghost use Rattle.session_log.specs.Grammar.{IsLogLineText};
-ghost use Rattle.session_log.specs.Groups.{IsFirstDifference, found_groups, input_lines, sent_groups};
-ghost use Rattle.session_log.specs.Inputs.{inputs};
+ghost use Rattle.session_log.specs.Check.{IsFirstDifference, found_groups, input_lines, sent_groups};
+ghost use Rattle.session_log.specs.Check.{inputs};
 ghost use Rattle.session_log.specs.Lines.{lines};
-ghost use Rattle.session_log.specs.Log.{fault_of, play_all};
-ghost use Rattle.session_log.specs.Needs.{need_lines, pieces_of, reports_need};
-ghost use Rattle.session_log.specs.Parsed.{parsed};
-ghost use Rattle.session_log.specs.Session.{history_semantics, quiet_history};
+ghost use Rattle.session_log.specs.Replay.{fault_of, play_all};
+ghost use Rattle.session_log.specs.World.{need_lines, pieces_of, reports_need};
+ghost use Rattle.session_log.specs.Grammar.{parsed};
+ghost use Rattle.session_log.specs.Replay.{history_semantics, quiet_history};
 ghost use Rattle.session_log.specs.declared.fault.LogFault.TheVariants.{Differs};
 
 /// States that parsing a line returns exactly what the grammar defines for the line, and `None` if and only if the line

@@ -1,8 +1,8 @@
 //! Parsing of log lines.
 ghost use Rattle.std.specs.Prelude.{◌≡◌, ◌<◌, ◌≤◌, ◌-◌, ◌/◌, ◌^◌, ◌↔◌, ◌==◌, length, position, slice_index, Option, None, Some, IfSome, IsTrue, MatchOption, SomeIff};
 ghost use Rattle.std.specs.Str.Parse.{AllDigits, digits_value};
-ghost use Rattle.session_log.specs.Letters.{space};
-ghost use Rattle.session_log.specs.Parsed.{first_field, parsed_input, input_line, parsed_key_pair, parsed_new_key, moment, parsed_presence, parsed, line_of_kind, sent_line, parsed_signature_bytes, parsed_signature, tick_line, timed_line};
+ghost use Rattle.session_log.specs.Grammar.{space};
+ghost use Rattle.session_log.specs.Grammar.{first_field, parsed_input, input_line, parsed_key_pair, parsed_new_key, moment, parsed_presence, parsed, line_of_kind, sent_line, parsed_signature_bytes, parsed_signature, tick_line, timed_line};
 
 use crate::hex_digits::{decode_bytes, decode_digits};
 use authn_core::{NewKey, Presence, Signature};
@@ -37,6 +37,7 @@ enum LineKind<'a> {
 }
 
 /// Parses decimal digits as a number below 2^64. Leading zeros are allowed.
+#[tactic(auto, using(crate::proofs::Spelled::at_least, crate::proofs::Spelled::all_read))]
 fn parse_digits(digits: &[u8]) -> Option<u64>
     ensures { SomeIff result (AllDigits 10 digits.now × (digits_value 10 digits.now ≤ 2 ^ 64 - 1))
         (digits_value 10 digits.now) }
@@ -67,6 +68,7 @@ fn parse_time(digits: &[u8]) -> Option<u64>
 }
 
 /// Returns the index of the first space.
+#[tactic(auto, using(crate::proofs::Cutting::first_is))]
 fn first_space(fields: &[u8]) -> Option<usize>
     ensures value { result ≡ position (λ b. b == space) fields.now }
     ensures within { IfSome result (λ end. end < length fields.now) }

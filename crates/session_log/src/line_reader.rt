@@ -1,9 +1,9 @@
 //! Reading the lines of a log.
 ghost use Rattle.std.specs.Prelude.{◌≡◌, ◌<◌, ◌≤◌, ◌-◌, ◌^◌, ℕ, List, [], ◌++◌, length, IfOk, IfErr, MatchBool, MatchOption};
 ghost use Rattle.std.specs.Io.KnownBytes.{Consumes};
-ghost use Rattle.session_log.specs.Ending.{ending_of, read_fails};
-ghost use Rattle.session_log.specs.Streams.{Counts, IsAtEndOfInput};
-ghost use Rattle.session_log.specs.Window.{HasLine, IsUnfinished, Stops};
+ghost use Rattle.session_log.specs.Replay.{ending_of, read_fails};
+ghost use Rattle.session_log.specs.Lines.{Counts, IsAtEndOfInput};
+ghost use Rattle.session_log.specs.Lines.{HasLine, IsUnfinished, Stops};
 
 use crate::fault::LogFault;
 use crate::source::Source;

@@ -2,13 +2,13 @@
 ghost use Rattle.std.specs.Prelude.{◌≡◌, ◌<◌, ◌≤◌, ◌+◌, ◌*◌, ◌-◌, ◌^◌, [], ◌∷◌, ◌++◌, length, flat_map, map, decimal, ◌/◌, OnOk, OnErr, IfErr};
 ghost use Rattle.std.specs.Io.KnownBytes.{Appends};
 ghost use Rattle.hex.specs.Hex.{encode_lower};
-ghost use Rattle.authn_core.specs.Needs.{IsValidNeed};
+ghost use Rattle.authn_core.specs.Views.{IsValidNeed};
 ghost use Rattle.authn_core.specs.Views.{to_needed};
 ghost use Rattle.session_log.specs.declared.line_writer.TheConstants.{MAX_TEXT_LEN, MAX_SIGNED_PER_LINE, SENT_LINE};
-ghost use Rattle.session_log.specs.Needs.{need_lines, pieces_of, signature_line, signed_line};
-ghost use Rattle.session_log.specs.Sent.{FitsMeters};
-ghost use Rattle.session_log.specs.Text.{ArePackets, IsPacket, with_line_feed, sent_text, tick_text, meters_line, same_line};
-ghost use Rattle.session_log.specs.Streams.{WritesLogLine};
+ghost use Rattle.session_log.specs.World.{need_lines, pieces_of, signature_need_line, signed_line};
+ghost use Rattle.session_log.specs.Replay.{FitsMeters};
+ghost use Rattle.session_log.specs.World.{ArePackets, IsPacket, with_line_feed, sent_text, tick_text, meters_line, same_line};
+ghost use Rattle.session_log.specs.Lines.{WritesLogLine};
 
 use crate::fault::LogFault;
 use crate::hex_digits::{encode_digits, write_digits};
@@ -112,7 +112,7 @@ fn push_signed(text: &mut Text, signed: &[u8])
 /// Appends the line with the ID of the credential that has to sign.
 fn push_signature(text: &mut Text, id: &[u8; 32])
     requires { length text.old.items + 82 ≤ MAX_TEXT_LEN }
-    ensures { text.new.items ≡ text.old.items ++ with_line_feed (signature_line id.now) }
+    ensures { text.new.items ≡ text.old.items ++ with_line_feed (signature_need_line id.now) }
 {
     let _ = text.try_extend_from_slice(b"# need signature ");
     push_digits(text, id);

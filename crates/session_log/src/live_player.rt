@@ -1,14 +1,14 @@
 //! Replays a log, and also writes what the session needs.
 ghost use Rattle.std.specs.Prelude.{◌≡◌, ◌<◌, ◌-◌, ◌^◌, List, [], OnOk};
 ghost use Rattle.session_log.specs.Command.{PlaysThrough};
-ghost use Rattle.session_log.specs.Ending.{ending_of, read_fails, write_fails};
-ghost use Rattle.session_log.specs.Needs.{is_need_line as is_one};
+ghost use Rattle.session_log.specs.Replay.{ending_of, read_fails, write_fails};
+ghost use Rattle.session_log.specs.World.{is_need_line as is_one};
 ghost use Rattle.session_log.specs.Replay.{Logs, Plays, ReadsTo, Writes};
-ghost use Rattle.session_log.specs.Session.{live_history, live_machine, Repeats, RepeatsIn};
+ghost use Rattle.session_log.specs.Replay.{live_history, live_machine, Repeats, RepeatsIn};
 ghost use Rattle.token_session.specs.declared.input.Timed.{Timed as OneInput};
 ghost use Rattle.authn_core.specs.Turn.{Start};
 ghost use Rattle.token_session.specs.Meters.{SessionState, IsStateAfter};
-ghost use Rattle.session_log.specs.Streams.{Counts, IsAtEndOfInput, ReadsAndWrites};
+ghost use Rattle.session_log.specs.Lines.{Counts, IsAtEndOfInput, ReadsAndWrites};
 
 use crate::fault::LogFault;
 use crate::line::Line;

@@ -1,9 +1,9 @@
 //! Processing the lines of a log with a command.
 ghost use Rattle.std.specs.Prelude.{◌≡◌, ◌<◌, ◌≤◌, ◌+◌, ◌-◌, ◌^◌, ℕ, length, take, drop, IfErr, OnOk};
 ghost use Rattle.session_log.specs.Command.{PlaysThrough};
-ghost use Rattle.session_log.specs.Ending.{ending_of};
+ghost use Rattle.session_log.specs.Replay.{ending_of};
 ghost use Rattle.session_log.specs.Replay.{IsLineFault, PlaysWholeLogWithMeters, Plays, PlaysLine};
-ghost use Rattle.session_log.specs.Text.{with_line_feed};
+ghost use Rattle.session_log.specs.World.{with_line_feed};
 
 use crate::fault::LogFault;
 use crate::line::{Line, parse_line};
@@ -16,10 +16,10 @@ use token_session::Session;
 /// A command, with what it does for each line of a log.
 pub trait Player<const C: usize> {
     ghost use Rattle.std.specs.Prelude.{◌≡◌, ◌<◌, ◌≤◌, ◌+◌, ◌-◌, ◌^◌, ℕ, length, Some, OnOk, IfErr};
-    ghost use Rattle.session_log.specs.Ending.{ending_of};
+    ghost use Rattle.session_log.specs.Replay.{ending_of};
     ghost use Rattle.session_log.specs.Replay.{FinishesLog, IsEndFault, IsLineFault, PlaysLine};
-    ghost use Rattle.session_log.specs.Parsed.{parsed};
-    ghost use Rattle.session_log.specs.Text.{with_line_feed};
+    ghost use Rattle.session_log.specs.Grammar.{parsed};
+    ghost use Rattle.session_log.specs.World.{with_line_feed};
     ghost use Rattle.session_log.specs.World.{LineSemantics};
     ghost use Rattle.token_session.specs.Meters.{SessionState};
 

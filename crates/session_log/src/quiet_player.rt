@@ -2,9 +2,9 @@
 ghost use Rattle.std.specs.Prelude.{◌≡◌, ◌<◌, ◌-◌, ◌^◌, List, []};
 ghost use Rattle.session_log.specs.Command.{PlaysLog, PlaysThrough};
 ghost use Rattle.session_log.specs.declared.command.ReplayMode.TheVariants as commands;
-ghost use Rattle.session_log.specs.Ending.{ending_of};
+ghost use Rattle.session_log.specs.Replay.{ending_of};
 ghost use Rattle.session_log.specs.Replay.{PlaysWholeLog};
-ghost use Rattle.session_log.specs.Session.{quiet_history, quiet_machine};
+ghost use Rattle.session_log.specs.Replay.{quiet_history, quiet_machine};
 ghost use Rattle.token_session.specs.declared.input.Timed.{Timed as OneInput};
 ghost use Rattle.authn_core.specs.Turn.{Start};
 ghost use Rattle.token_session.specs.Meters.{SessionState, IsStateAfter};

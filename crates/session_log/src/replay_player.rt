@@ -2,8 +2,8 @@
 ghost use Rattle.std.specs.Prelude.{◌≡◌, ◌<◌, ◌-◌, ◌^◌, List, [], OnOk};
 ghost use Rattle.session_log.specs.Command.{PlaysThrough};
 ghost use Rattle.session_log.specs.Replay.{Logs};
-ghost use Rattle.session_log.specs.Sent.{FitsMeters};
-ghost use Rattle.session_log.specs.Session.{history, machine, exchange_history, Repeats};
+ghost use Rattle.session_log.specs.Replay.{FitsMeters};
+ghost use Rattle.session_log.specs.Replay.{history, machine, replay_exchanges, Repeats};
 ghost use Rattle.token_session.specs.declared.input.Timed.{Timed as OneInput};
 ghost use Rattle.authn_core.specs.Turn.{Start};
 ghost use Rattle.token_session.specs.Meters.{IsStateAfterValidStart, SessionState, IsStateAfter};
@@ -112,7 +112,7 @@ pub fn replay<S: Source, T: Target, const C: usize>(
     // state give.
     ensures told { (start : Start) (h : List OneInput) → IsStateAfterValidStart session.old start h
         → (later : List OneInput) × IsStateAfterValidStart session.new start later
-        × PlaysThrough (exchange_history start) h (λ bytes text. Logs (exchange_history start) h later bytes text result)
+        × PlaysThrough (replay_exchanges start) h (λ bytes text. Logs (replay_exchanges start) h later bytes text result)
         S.left S.failed S.ended T.taken T.failed result (reader.old, reader.new) (writer.old, writer.new) }
 {
     answers_follow_history();

@@ -1,7 +1,7 @@
 //! Sources from which the bytes of a log are read.
 ghost use Rattle.std.specs.Prelude.{◌≡◌, ◌<◌, ◌≤◌, ◌+◌, ◌-◌, ◌^◌, [], ◌∷◌, ◌++◌, List, ℕ, Option, Some, length, take, drop, min, is_ok, if◌then◌else◌, ◌||◌, Bool, true, false, Ok, IsTrue, IsOk, IfOk};
 ghost use Rattle.std.specs.Io.KnownBytes.{ReadConsumes};
-ghost use Rattle.session_log.specs.Streams.{is_empty_read};
+ghost use Rattle.session_log.specs.Lines.{is_empty_read};
 
 use crate::count_failures::CountFailures;
 use crate::fault::Failed;

@@ -1,7 +1,7 @@
 //! Targets to which the bytes of a log are written.
 ghost use Rattle.std.specs.Prelude.{◌≡◌, ◌<◌, ◌≤◌, ◌+◌, ◌-◌, ◌^◌, ◌↔◌, [], ◌∷◌, ◌++◌, List, ℕ, Option, Some, length, take, drop, min, is_ok, if◌then◌else◌, IsErr, IfOk, OnOk, OnErr, MatchResult};
 ghost use Rattle.std.specs.Io.KnownBytes.{Appends, WriteAppends};
-ghost use Rattle.session_log.specs.Streams.{WriteFails, WritesAll, WritesText};
+ghost use Rattle.session_log.specs.Lines.{WriteFails, WritesAll, WritesText};
 
 use crate::count_failures::CountFailures;
 use crate::fault::Failed;

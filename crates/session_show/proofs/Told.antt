@@ -1,27 +1,85 @@
 -- The text of lines that are shown one after the other.
-use Rattle.std.proofs.Common.{◌≡◌, ℕ, ◌+◌, ◌≤◌, ◌<◌, ◌^◌, List, [], ◌∷◌, ◌++◌, length, take, drop, flat_map, Option}
-use Rattle.std.proofs.Common.{Bool, true, false, cond, is_some, nat_le, nat_lt, inl}
-use Rattle.std.proofs.Common.{Some, None, Result, Ok, Err, refl, sym, ap, ◌∙◌, subst, arith, append-nil, append_assoc}
-use Rattle.std.proofs.{Common.length-append, Common.take-append-drop, lemmas.Grind.flat_map-append}
-use Rattle.std.specs.Io.KnownBytes.{Consumes, Appends, Keeps}
+use Rattle.std.proofs.Common.{◌≡◌, ℕ, ◌+◌, List, None, Some, rules, ◌∷◌, ◌++◌, Option, Result, Ok, Err, ap, ◌∙◌}
+use Rattle.std.proofs.Common.{subst, append_assoc, decimal, ◌≤◌, ◌<◌, ◌^◌, [], length, take, drop, flat_map, Bool}
+use Rattle.std.proofs.Common.{true, false, cond, is_some, nat_le, nat_lt, inl, refl, sym, arith, append-nil}
+use Rattle.std.proofs.Common.{length-append, take-append-drop}
+use Rattle.session_log.specs.declared.line.Line.{Line}
+use Rattle.session_log.specs.declared.fault.LogFault.TheVariants.{BadLine, Memory, TooLong, Differs, Read, Write}
+use Rattle.session_log.specs.declared.fault.LogFault.TheVariants.{TooManyLines}
+use Rattle.session_log.specs.Grammar.{parsed}
+use Rattle.session_log.specs.Replay.{Done, Refused, Unwritten, Ending, Unread, ending_of_fault, ending_of, read_fails}
+use Rattle.session_log.specs.Replay.{write_fails}
+use Rattle.session_show.specs.Shown.{ShowsLine, AreLineTexts, IsShownText, LineTextRule, Shows, WritesEnd, WritesLine}
+use Rattle.session_show.specs.Shown.{ShownLine, failures_of, read_only_world, rule_for_format, unknown_bytes}
 use Rattle.std.proofs.KnownBytes.{Appends-trans, Appends-kept}
-use Rattle.session_log.specs.Ending.{Done, Ending, Refused, Unread, Unwritten, ending_of_fault, ending_of, read_fails}
-use Rattle.session_log.specs.{Ending.write_fails, Replay.ReadsTo}
-use Rattle.session_log.specs.{Lines.lines, Parsed.parsed, Sent.SendsPackets, Text.with_line_feed, declared.line.Line.Line}
-use Rattle.session_log.specs.{Replay.IsRefused, Replay.IsUnread, Replay.IsPlayed, Replay.IsUnwritten}
-use Rattle.session_log.specs.Log.{Played, line_fault, parsed_line_fault, output_of, played, with_text_before, parsed_line_text, line_text}
-use Rattle.session_log.specs.Window.{HasLine, IsUnfinished, Stops}
-use Rattle.session_log.specs.declared.fault.LogFault.{LogFault, TheVariants.Memory}
-use Rattle.session_log.specs.declared.fault.LogFault.TheVariants.{BadLine, TooLong, Differs, Read, Write, TooManyLines}
+use Rattle.std.specs.Io.KnownBytes.{Appends, Consumes, Keeps}
+use Rattle.session_log.specs.Lines.{WritesAll, WritesText, OnlyAppends}
+use Rattle.session_log.specs.declared.fault.Failed.{Failed}
+use Rattle.session_show.specs.Shown.{Writes, WritesNumbered}
+use Rattle.std.proofs.lemmas.Grind.{flat_map-append}
+use Rattle.session_log.specs.Replay.{ReadsTo, IsRefused, IsUnread, IsPlayed, IsUnwritten}
+use Rattle.session_log.specs.Lines.{lines}
+use Rattle.session_log.specs.Replay.{SendsPackets}
+use Rattle.session_log.specs.World.{with_line_feed}
+use Rattle.session_log.specs.Replay.{Played, line_fault, parsed_line_fault, output_of, played, with_text_before}
+use Rattle.session_log.specs.Replay.{parsed_line_text, line_text}
+use Rattle.session_log.specs.Lines.{HasLine, IsUnfinished, Stops}
+use Rattle.session_log.specs.declared.fault.LogFault.{LogFault}
 use Rattle.session_log.proofs.Cutting.{last_line, some_line}
-use Rattle.session_log.proofs.{Exits.short_in_front, Exits.stops_at_line, Gathering.in_count, Through.unread}
-use Rattle.session_log.proofs.Through.{Through, lines_are, played_last, played_sound, refused, said_fault, through_line}
-use Rattle.session_log.proofs.Through.{too_long, too_many, unwritten}
-use Rattle.session_show.specs.Shown.{AreLineTexts, IsShownText, LineTextRule, Shows, ShowsLine, WritesEnd, WritesLine, ShownLine}
-use Rattle.session_show.specs.Shown.{failures_of, read_only_world, rule_for_format, unknown_bytes}
-use Rattle.session_show.specs.declared.detail.Detail.{TheVariants.Fixed, TheVariants.Explained}
-use Rattle.session_show.specs.declared.log_writer.OutputFormat.{OutputFormat, TheVariants.Text, TheVariants.Page}
-use Rattle.session_show.specs.declared.log_writer.OutputFormat.TheVariants.{Table, Summary, Objects}
+use Rattle.session_log.proofs.Through.{short_in_front, stops_at_line, unread, Through, lines_are, played_last}
+use Rattle.session_log.proofs.Through.{played_sound, refused, said_fault, through_line, too_long, too_many, unwritten}
+use Rattle.session_log.proofs.Cutting.{in_count}
+use Rattle.session_show.specs.declared.detail.Detail.TheVariants.{Fixed, Explained}
+use Rattle.session_show.specs.declared.log_writer.OutputFormat.{OutputFormat}
+use Rattle.session_show.specs.declared.log_writer.OutputFormat.TheVariants.{Text, Page, Table, Summary, Objects}
+
+-- ---- what was shown of one line
+
+-- a line that is none: nothing was written
+pub bad_line : (n : ℕ) (line : List ℕ) (failures : ℕ) → parsed line ≡ None →
+    ShowsLine n line (failures, failures) (Refused (BadLine n))
+bad_line n line failures none = rw none (search rules)
+
+-- a line whose text was written
+pub shown_line : (n : ℕ) (line : List ℕ) (before after : ℕ) (l : Line) → parsed line ≡ Some l → after ≡ before →
+    ShowsLine n line (before, after) Done
+shown_line n line before after l is same = rw is (search rules)
+
+-- and one whose text broke off
+pub broken_line : (n : ℕ) (line : List ℕ) (before after : ℕ) (l : Line) → parsed line ≡ Some l → after ≡ before + 1 →
+    ShowsLine n line (before, after) Unwritten
+broken_line n line before after l is more = rw is (search rules)
+
+-- ---- a text that is handed over part by part
+
+-- after the parts so far a part was appended, or broke off
+pub puts_on : {F : Type 0} (taken : F → Option (List ℕ)) (failed : F → ℕ) (a b c : F) (part : List ℕ)
+    (r : Result (Unit {0}) Failed) → ((text : List ℕ) × Appends (taken a) (taken b) text) → failed b ≡ failed a →
+    WritesText taken failed (b, c) part r → Writes taken failed (a, c) r
+puts_on taken failed a b c part (Ok x) before same h =
+    ((before.0 ++ part, Appends-trans (taken a) (taken b) (taken c) before.0 part before.1 h.0), h.1 ∙ same)
+puts_on taken failed a b c part (Err e) before same h =
+    ((before.0 ++ h.0.0, Appends-trans (taken a) (taken b) (taken c) before.0 h.0.0 before.1 h.0.4), h.1 ∙ ap (λ (n : ℕ). n + 1) same)
+
+pub grows_on : (a b c : Option (List ℕ)) → OnlyAppends a b → OnlyAppends b c → OnlyAppends a c
+grows_on a b c first then = (first.0 ++ then.0, Appends-trans a b c first.0 then.0 first.1 then.1)
+
+-- a number, a space and a part were written, and then a text
+pub numbered_on : {F : Type 0} (taken : F → Option (List ℕ)) (failed : F → ℕ) (a b c : F) (number : ℕ) (part : List ℕ)
+    (r : Result (Unit {0}) Failed) → WritesAll taken failed (a, b) (decimal number ++ 32 ∷ part)
+    → Writes taken failed (b, c) r → WritesNumbered taken failed number (a, c) r
+numbered_on taken failed a b c number part (Ok x) first then = (
+  part ++ then.0.0,
+  (
+    subst (Appends (taken a) (taken c)) (append_assoc (decimal number) (32 ∷ part) then.0.0)
+        (Appends-trans (taken a) (taken b) (taken c) (decimal number ++ 32 ∷ part) then.0.0 first.0 then.0.1),
+    then.1 ∙ first.1,
+  ),
+)
+numbered_on taken failed a b c number part (Err e) first then =
+    (grows_on (taken a) (taken b) (taken c) (decimal number ++ 32 ∷ part, first.0) then.0, then.1 ∙ ap (λ (n : ℕ). n + 1) first.1)
+
+-- ---- the text of lines that are shown one after the other
 
 -- a fault that was passed on
 pub as_err : {A : Type 0} (r : Result A LogFault) (e : LogFault) (P : Ending → Type 0) → r ≡ Err e → P (ending_of_fault e)

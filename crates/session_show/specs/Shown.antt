@@ -1,16 +1,35 @@
 -- Which lines of a log are shown, and the text for each line.
-use Rattle.std.specs.Prelude.{◌≡◌, ℕ, ◌+◌, Bool, true, false, not, ◌==◌, List, [], ◌∷◌, ◌++◌, length, flat_map, decimal}
-use Rattle.std.specs.Prelude.{Option, Some, None, ◌⊎◌}
-use Rattle.std.specs.{Bool.MatchBool, Io.KnownBytes.Appends, Io.KnownBytes.Keeps}
-use Rattle.session_log.specs.Ending.{Done, Ending, Refused, Unread, Unwritten}
-use Rattle.session_log.specs.Replay.{Plays, PlaysLine}
-use Rattle.session_log.specs.{Parsed.parsed, Text.with_line_feed, World.LineSemantics, declared.line.Line.Line}
-use Rattle.session_log.specs.Streams.{OnlyAppends, WritesAll, ReadsAndWrites}
+use Rattle.std.specs.Prelude.{◌≡◌, ℕ, ◌+◌, List, ◌∷◌, ◌++◌, decimal, Option, Result, MatchResult, Bool, true, false}
+use Rattle.std.specs.Prelude.{not, ◌==◌, [], length, flat_map, Some, None, ◌⊎◌}
+use Rattle.session_log.specs.Lines.{OnlyAppends, WritesAll, ReadsAndWrites}
+use Rattle.std.specs.Bool.{MatchBool}
+use Rattle.std.specs.Io.KnownBytes.{Appends, Keeps}
+use Rattle.session_log.specs.Replay.{Done, Ending, Refused, Unread, Unwritten, Plays, PlaysLine}
+use Rattle.session_log.specs.Grammar.{parsed}
+use Rattle.session_log.specs.World.{with_line_feed, LineSemantics}
+use Rattle.session_log.specs.declared.line.Line.{Line}
 use Rattle.session_log.specs.declared.line.Line.TheVariants.{Input, Sent, Comment, Count}
-use Rattle.session_show.specs.declared.detail.Detail.{Detail, TheVariants.Fixed, TheVariants.Explained}
-use Rattle.session_show.specs.declared.log_writer.OutputFormat.{OutputFormat, TheVariants.Text, TheVariants.Page}
+use Rattle.session_show.specs.declared.detail.Detail.{Detail}
+use Rattle.session_show.specs.declared.detail.Detail.TheVariants.{Fixed, Explained}
+use Rattle.session_show.specs.declared.log_writer.OutputFormat.{OutputFormat}
+use Rattle.session_show.specs.declared.log_writer.OutputFormat.TheVariants.{Text, Page}
 
--- ---- The text for a line
+-- ---- the effect of a writing call on its target
+
+-- The target's old bytes are unchanged, bytes may have been appended, and if the result is an error, exactly one more
+-- call of the target failed. A pair is the target before and after.
+abbrev pub Writes : {F A E : Type 0} → (F → Option (List ℕ)) → (F → ℕ) → (F × F) → Result A E → Type 0
+Writes taken failed target r = OnlyAppends (taken target.0) (taken target.1)
+    × MatchResult r (λ x. failed target.1 ≡ failed target.0) (λ e. failed target.1 ≡ failed target.0 + 1)
+
+-- On success, a number, a space and further bytes were written. On an error, exactly one more call of the target
+-- failed. A pair is the target before and after.
+abbrev pub WritesNumbered : {F A E : Type 0} → (F → Option (List ℕ)) → (F → ℕ) → ℕ → (F × F) → Result A E → Type 0
+WritesNumbered taken failed number target r =
+    MatchResult r (λ x. (more : List ℕ) × WritesAll taken failed target (decimal number ++ 32 ∷ more))
+    (λ e. OnlyAppends (taken target.0) (taken target.1) × (failed target.1 ≡ failed target.0 + 1))
+
+-- ---- the text for a line
 
 -- Whether there is text for a line. Packets, ticks and replies have text; comments have text only with explanations.
 abbrev pub has_text : Detail → List ℕ → Line → Bool
@@ -63,8 +82,7 @@ rule_for_format format = rule_for_detail (detail_of format)
 
 -- ---- the lines
 
--- The semantics of a log that is only read: the sole error is a line that is not a log line, and the text for a line is
--- the line itself.
+-- The semantics of a log that is only read: each log line is accepted, and the text for a line is the line itself.
 abbrev pub read_only_world : LineSemantics (Unit {0})
 read_only_world = record {
   stops = λ s l. None;

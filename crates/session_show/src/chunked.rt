@@ -1,6 +1,6 @@
 //! Writes texts of any length to a target, in chunks.
 ghost use Rattle.std.specs.Prelude.{◌≡◌, ◌<◌, ◌≤◌, ◌-◌, ◌^◌, ◌∷◌, ◌++◌, length, decimal};
-ghost use Rattle.session_show.specs.Written.{Writes, WritesNumbered};
+ghost use Rattle.session_show.specs.Shown.{Writes, WritesNumbered};
 
 use crate::text_buf::{CHUNK_LEN, TextBuf};
 use arrayvec::ArrayVec;

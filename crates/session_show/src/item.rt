@@ -1,6 +1,6 @@
 //! CBOR items as text, in diagnostic notation (RFC 8949, section 8) or JSON (RFC 8259).
 ghost use Rattle.std.specs.Prelude.{◌<◌, ◌≤◌, ◌-◌, ◌^◌};
-ghost use Rattle.session_show.specs.Written.{Writes};
+ghost use Rattle.session_show.specs.Shown.{Writes};
 
 use crate::chunked::{Written, put_chunks};
 use crate::detail::Detail;
@@ -60,7 +60,7 @@ pub fn write_item_or_error(buf: &mut TextBuf, item: &[u8], checked: &Result<(), 
 /// Writes a CBOR item in diagnostic notation: `{1: "usb", 2: [true, h'0aff', -7]}`. For bytes that aren't the canonical
 /// encoding of an item, the number and the offset of the error are written: `fault 9 at 1`.
 ///
-/// In strings, `"` and `\` are escaped with a backslash, and invisible characters as `\u00NN`.
+/// In strings, `"` and `\` are escaped with a backslash, and invisible characters as `\uNNNN` or `\u{NNNNNN}`.
 pub fn show_item<T: Target>(writer: &mut T, item: &[u8]) -> Result<(), Failed>
     requires { T.failed writer.old < 2 ^ 64 - 1 }
     ensures { Writes T.taken T.failed (writer.old, writer.new) result }
@@ -72,8 +72,8 @@ pub fn show_item<T: Target>(writer: &mut T, item: &[u8]) -> Result<(), Failed>
     )
 }
 
-/// Writes the next item with its content. The bytes were checked before, so there is no error. A map key that is a
-/// number is written by name, if the key has a name.
+/// Writes the next item with its content. The bytes were checked before, so there is no error. In JSON, a map key that
+/// is a number is written by name, if the key has a name.
 #[cycle(write)]
 pub fn write_value(
     buf: &mut TextBuf,
@@ -130,7 +130,7 @@ fn write_decoded(
     }
 }
 
-/// Writes a map key. A number is written by name, if it has a name.
+/// Writes a map key. In JSON, a number is written as a string: its name, or else its digits.
 fn write_key(buf: &mut TextBuf, key: Item<'_>, notation: &Notation, names: Names) {
     if let Item::Int(number) = key
         && notation.is_json

@@ -1,6 +1,6 @@
 //! The JSON object of a log error.
 ghost use Rattle.std.specs.Prelude.{◌<◌, ◌-◌, ◌^◌};
-ghost use Rattle.session_show.specs.Written.{Writes};
+ghost use Rattle.session_show.specs.Shown.{Writes};
 
 use crate::chunked::{Written, put_chunks};
 use crate::detail::Detail;

@@ -1,10 +1,10 @@
 //! Writes a log line by line, in one of several output formats.
 ghost use Rattle.std.specs.Prelude.{◌≡◌, ◌<◌, ◌-◌, ◌^◌, IfErr, OnOk};
-ghost use Rattle.session_log.specs.Ending.{ending_of, read_fails, write_fails};
+ghost use Rattle.session_log.specs.Replay.{ending_of, read_fails, write_fails};
 ghost use Rattle.session_log.specs.Replay.{IsLineFault, ReadsTo};
-ghost use Rattle.session_log.specs.Streams.{Counts as CountsFailures, IsAtEndOfInput};
+ghost use Rattle.session_log.specs.Lines.{Counts as CountsFailures, IsAtEndOfInput};
 ghost use Rattle.session_show.specs.Shown.{Shows, ShowsLine, WritesEnd, WritesLine, read_only_world, rule_for_format, detail_of};
-ghost use Rattle.session_show.specs.Written.{Writes};
+ghost use Rattle.session_show.specs.Shown.{Writes};
 
 use crate::chunked::{Written, put_chunks, put_with_line_number};
 use crate::counts::{Counts, JSON_FORMATS, TEXT_FORMATS};
@@ -211,7 +211,8 @@ impl LogWriter {
 /// write the end of the output.
 ///
 /// The text for a line is written before more is read; in JSON, except for a continuation packet 100 ms or more after
-/// the one before it: only the next line shows whether it was too late. These JSON objects don't include the counts.
+/// the one before it: only the next line shows whether it was too late. With [`OutputFormat::Objects`], no counts are
+/// written.
 ///
 /// Allocates nothing; its memory doesn't grow with the log. Errors are those of [`crate::show`]; [`put_json_fault`]
 /// writes one as a JSON object.

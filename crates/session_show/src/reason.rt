@@ -23,7 +23,7 @@ pub struct Reason<'a> {
 }
 
 impl Written for Reason<'_> {
-    /// Writes a line with the reason why the key sends no packet or refuses a request, if the reason is known.
+    /// Writes a line with the reason why the key sends its packet, or none, if the reason is known.
     fn write(&self, buf: &mut TextBuf) {
         let Some(sent) = &self.difference.sent else {
             match self.next_keepalive() {
@@ -86,8 +86,8 @@ impl Reason<'_> {
         }
     }
 
-    /// Returns the open message of a channel.
-    fn open_on(&self, channel: u32) -> Option<&OpenTransaction> {
+    /// Returns the open transaction of a channel.
+    fn open_transaction(&self, channel: u32) -> Option<&OpenTransaction> {
         match self.walk.channels.on(channel) {
             Some(found) => found.current.as_ref(),
             None => None,
@@ -99,8 +99,10 @@ impl Reason<'_> {
     fn write_refusal(&self, buf: &mut TextBuf, cid: u32, cause: Cause) {
         buf.text("  ");
         let busy_with = match cause {
-            Cause::Transport(Transport::BusyElsewhere { channel }) => self.open_on(channel),
-            Cause::Transport(Transport::BusyHere) => self.open_on(cid),
+            Cause::Transport(Transport::BusyElsewhere { channel }) => self.open_transaction(
+                channel,
+            ),
+            Cause::Transport(Transport::BusyHere) => self.open_transaction(cid),
             _ => None,
         };
         if let Some(open) = busy_with {
@@ -109,7 +111,7 @@ impl Reason<'_> {
             buf.text("\n");
             return;
         }
-        let request = self.open_on(cid);
+        let request = self.open_transaction(cid);
         if let Some(request) = request
             && matches!(cause, Cause::Command(Command::Excluded))
             && let Some(excluded) = &request.named.excluded
@@ -217,7 +219,7 @@ impl Reason<'_> {
             _ if self.difference.input == 0 => {
                 buf.text("  no input comes before this packet\n");
             }
-            _ => buf.format(b"  line %d calls for no further packet\n", &[input]),
+            _ => buf.format(b"  line %d needs no further packet\n", &[input]),
         }
     }
 }

@@ -178,7 +178,8 @@ impl ReplayedLog {
         }
     }
 
-    /// Processes a packet that the session sent for the input on this line.
+    /// Processes a packet that the session sent. `line` is the packet's line in the log or, if the log lacks the packet,
+    /// the line of its input.
     pub fn process_sent(&mut self, line: u64, packet: &Packet) {
         if let View::Start { cmd: KEEPALIVE, .. } = packet.view() {
             self.kept_alive = Some((self.now, *packet));

@@ -1,8 +1,8 @@
 //! A log as text, line by line.
 ghost use Rattle.std.specs.Prelude.{◌<◌, ◌-◌, ◌^◌, OnOk};
-ghost use Rattle.session_log.specs.Ending.{ending_of, read_fails, write_fails};
+ghost use Rattle.session_log.specs.Replay.{ending_of, read_fails, write_fails};
 ghost use Rattle.session_log.specs.Replay.{ReadsTo};
-ghost use Rattle.session_log.specs.Streams.{Counts, IsAtEndOfInput};
+ghost use Rattle.session_log.specs.Lines.{Counts, IsAtEndOfInput};
 ghost use Rattle.session_show.specs.Shown.{IsLineText, Shows, read_only_world};
 ghost use Rattle.session_show.specs.declared.detail.Detail.TheVariants.{Explained as explained, Fixed as fixed};
 

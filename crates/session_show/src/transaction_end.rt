@@ -11,10 +11,10 @@ pub struct EndFormats {
     /// The format for the web page. The first number is the line at which the transaction began.
     pub page: &'static [u8],
     /// The format for the explained text, if the message is complete. The first numbers are the lines of the end and of
-    /// the beginning. Empty for a response or an ERROR to a complete message, for which there is another line.
+    /// the beginning. Empty for a response or an ERROR, which have lines of their own, and for an open transaction.
     pub whole: &'static [u8],
-    /// The format for the explained text, if the message is incomplete. The number of bytes received follows the same
-    /// numbers.
+    /// The format for the explained text, if the message is incomplete. After the same numbers come the number of bytes
+    /// received and the length of the message.
     pub part: &'static [u8],
 }
 

@@ -3,10 +3,10 @@
 use Rattle.std.specs.Prelude.{◌≡◌, ◌<◌, ℕ, Bool, true, false, not, ◌&&◌, ◌||◌, ◌==◌, nat_lt, List, [], ◌∷◌, ◌++◌, map, fold}
 use Rattle.std.specs.List.{list_any}
 use Rattle.std.specs.Prelude.{option_map, slice_get, slice_set, Option, Some, None, is_none, if◌then◌else◌}
-use Rattle.hid_packet.specs.Commands.{BROADCAST, INIT}
-use Rattle.session_walk.specs.Extents.{is_whole}
+use Rattle.hid_packet.specs.Packet.{BROADCAST, INIT}
+use Rattle.session_walk.specs.Messages.{is_whole}
 use Rattle.session_walk.specs.Owners.{with_end}
-use Rattle.session_walk.specs.Replies.{is_assertion, is_success, no_rp_id}
+use Rattle.session_walk.specs.Walks.{is_assertion, is_success, no_rp_id}
 use Rattle.session_walk.specs.Walks.{channel_on, index_on}
 use Rattle.session_walk.specs.Whole.{is_idle, may_be_processing, open_init}
 use Rattle.session_walk.specs.declared.answer.ResponseStart.{ResponseStart}

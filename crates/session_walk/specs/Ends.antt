@@ -1,8 +1,9 @@
--- The transactions that a packet of the key ends on a channel (CTAP 2.1, sections 11.2.4, 11.2.5 and 11.2.9.1).
+-- For a packet of the device: the message on its channel to which the response, KEEPALIVE or ERROR belongs, the
+-- transactions that end, and the channel afterwards (CTAP 2.1, sections 11.2.4, 11.2.5 and 11.2.9.1).
 use Rattle.std.specs.Prelude.{ℕ, Bool, true, false, not, ◌&&◌, ◌||◌, ◌==◌, nat_le, nat_lt, ◌+◌, ◌-◌, ◌^◌, min, List}
 use Rattle.std.specs.Prelude.{Option, Some, None, if◌then◌else◌, is_none}
-use Rattle.hid_packet.specs.Commands.{INIT}
-use Rattle.session_walk.specs.Extents.{is_whole}
+use Rattle.hid_packet.specs.Packet.{INIT}
+use Rattle.session_walk.specs.Messages.{is_whole}
 use Rattle.session_walk.specs.Owners.{with_end, with_end_of, is_complete_message, current_ended, is_owner_unknown, with_unidentified, contender_accepted, ends_by_contender}
 use Rattle.session_walk.specs.Owners.{is_in_process, transaction_of}
 use Rattle.session_walk.specs.declared.awaited.AwaitedReply.{AwaitedReply}

@@ -1,10 +1,7 @@
-pub mod Extents
-pub mod Messages
 pub mod Lines
-pub mod Completed
+pub mod Messages
 pub mod Owners
-pub mod Walks
 pub mod Ends
-pub mod Replies
+pub mod Walks
 pub mod Whole
 pub mod Channels

@@ -1,12 +1,20 @@
--- How a line of a log changes the messages that are kept (CTAP 2.1, section 11.2.4, "Message and packet structure").
-use Rattle.std.specs.Prelude.{◌≡◌, ◌==◌, ℕ, Some, option_map, if◌then◌else◌, ⊤}
-use Rattle.hid_packet.specs.Commands.{CBOR}
-use Rattle.hid_packet.specs.Packet.{Fields, command_of, continuation, data_of, fields, initialization, length_of}
+-- How a line of a log changes the messages that are kept, and the messages that are shown with a line.
+use Rattle.std.specs.Prelude.{◌≡◌, ◌==◌, ℕ, Some, option_map, if◌then◌else◌, ⊤, List, Option, None, []}
+use Rattle.hid_packet.specs.Packet.{CBOR, Fields, command_of, continuation, data_of, fields, initialization}
+use Rattle.hid_packet.specs.Packet.{length_of}
 use Rattle.token_session.specs.declared.input.Input.TheVariants.{Packet, Tick, Presence, Key, Signature}
 use Rattle.token_session.specs.declared.input.Input.{Input as AnyInput}
 use Rattle.session_log.specs.declared.line.Line.{Line}
 use Rattle.session_log.specs.declared.line.Line.TheVariants.{Input, Sent, Comment, Count}
 use Rattle.session_walk.specs.Messages.{KeptMessages, AddsData, CanBeKept, KeepsOnly, new_message, continued, kept_at}
+use Rattle.session_walk.specs.Messages.{complete_bytes_at}
+use Rattle.session_walk.specs.declared.ambiguous.Resolved.{Resolved}
+use Rattle.session_walk.specs.declared.ambiguous.CompletedMessage.{CompletedMessage}
+use Rattle.session_walk.specs.declared.entry.CborMessage.{CborMessage}
+use Rattle.session_walk.specs.declared.entry.LineEntry.{LineEntry}
+use Rattle.session_walk.specs.declared.tracker.TransactionTracker.{TransactionTracker}
+
+-- ---- how a line changes the stored messages (CTAP 2.1, section 11.2.4, "Message and packet structure")
 
 -- A packet on line `number` adds its data to the message that began at line `transaction`.
 abbrev pub PacketAddsData : (number : ℕ) → Fields → (transaction : ℕ) → (before after : KeptMessages) → Type 0
@@ -71,3 +79,28 @@ LineContinues (Input timed) transaction = InputContinues timed.input transaction
 LineContinues (Sent packet) transaction = PacketContinues (fields packet.0) transaction
 LineContinues Comment transaction = KeepsAll
 LineContinues Count transaction = KeepsAll
+
+-- ---- the CBOR messages that are shown with a line
+
+-- The bytes of a message that is shown, or None if they weren't kept.
+abbrev pub message_bytes : Option CborMessage → Option (Option (List ℕ))
+message_bytes = option_map (λ message. option_map (λ bytes. bytes.now) message.bytes)
+
+-- The bytes of the completed message, or None if they weren't kept.
+abbrev pub completed_bytes : KeptMessages → Option CompletedMessage → Option (Option (List ℕ))
+completed_bytes kept = option_map (λ completed. complete_bytes_at kept completed.line)
+
+-- The line with an ambiguous packet, which is shown when its transaction is known.
+pub record ShowsResolved (kept : KeptMessages) (resolved : Option Resolved) (deferred : Option LineEntry) : Type 0 where
+  pub line : option_map (λ own. own.number) deferred ≡ option_map (λ resolved. resolved.line) resolved
+  pub parsed : option_map (λ own. own.parsed.now) deferred ≡ option_map (λ resolved. resolved.parsed) resolved
+  pub transaction : option_map (λ own. own.transaction) deferred ≡ option_map (λ resolved. resolved.transaction) resolved
+  pub data_len : option_map (λ own. own.data_len) deferred ≡ option_map (λ resolved. resolved.data_len) resolved
+  pub message : option_map (λ own. message_bytes own.message) deferred
+      ≡ option_map (λ resolved. completed_bytes kept resolved.completed) resolved
+
+-- The previous line completed no message and ended no transaction.
+pub record EndsNothing (walk : TransactionTracker) : Type 0 where
+  pub completed : walk.completed ≡ None
+  pub resolved : walk.resolved ≡ None
+  pub ended : walk.ended.0.items ≡ []

@@ -1,8 +1,21 @@
 -- The two messages whose bytes are stored at a time (CTAP 2.1, section 11.2.4, "Message and packet structure").
-use Rattle.std.specs.Prelude.{◌≡◌, ◌≢◌, ℕ, ◌≤◌, ◌<◌, ◌-◌, ◌==◌, ◌++◌, ◌⊎◌, ◌||◌, Bool, List, length, take, Option, None}
-use Rattle.std.specs.Prelude.{Some, IfSome, option_map, if◌then◌else◌}
+use Rattle.std.specs.Prelude.{ℕ, min, Bool, ◌&&◌, nat_le, ◌≡◌, ◌≢◌, ◌≤◌, ◌<◌, ◌-◌, ◌==◌, ◌++◌, ◌⊎◌, ◌||◌, List}
+use Rattle.std.specs.Prelude.{length, take, Option, None, Some, IfSome, option_map, if◌then◌else◌}
+use Rattle.hid_packet.specs.Packet.{MAX_MESSAGE_LEN, data_capacity, continuation}
+use Rattle.hid_packet.specs.Packet.{initialization}
 use Rattle.std.specs.Option.{option_and_then}
-use Rattle.hid_packet.specs.Limits.{MAX_MESSAGE_LEN}
+
+-- ---- how much of a message was received
+
+-- The bytes of a message of `len` bytes in its initialization packet and `count` continuation packets.
+abbrev pub bytes_received : (len count : ℕ) → ℕ
+bytes_received len count = min len (data_capacity count)
+
+-- Whether the message is complete. A message over the maximum length is never complete.
+abbrev pub is_whole : (len count : ℕ) → Bool
+is_whole len count = nat_le len MAX_MESSAGE_LEN && nat_le len (data_capacity count)
+
+-- ---- the stored messages
 
 -- A stored message: the line of its initialization packet, or 0 if the buffer is free, its length, and the bytes
 -- received.

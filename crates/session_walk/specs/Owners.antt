@@ -3,9 +3,9 @@
 use Rattle.std.specs.Prelude.{ℕ, Bool, true, false, not, ◌&&◌, ◌||◌, ◌==◌, nat_le, nat_lt, ◌+◌, ◌-◌, min, max, List, []}
 use Rattle.std.specs.Prelude.{◌∷◌, ◌++◌, length, Option, Some, None, if◌then◌else◌}
 use Rattle.byteorder.specs.Endian.{big_number}
-use Rattle.hid_packet.specs.Commands.{PING, INIT}
-use Rattle.hid_packet.specs.Limits.{CONT_PACKET_DATA}
-use Rattle.session_walk.specs.Extents.{bytes_received, is_whole}
+use Rattle.hid_packet.specs.Packet.{PING, INIT}
+use Rattle.hid_packet.specs.Packet.{CONT_PACKET_DATA}
+use Rattle.session_walk.specs.Messages.{bytes_received, is_whole}
 use Rattle.session_walk.specs.declared.channel.{Channel.Channel, ContinuationMatch.ContinuationMatch, PendingInit.PendingInit}
 use Rattle.session_walk.specs.declared.transaction.{Ended.Ended, OpenTransaction.OpenTransaction, Transaction.Transaction}
 use Rattle.session_walk.specs.declared.transaction.End.{End}

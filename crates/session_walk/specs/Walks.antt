@@ -1,26 +1,83 @@
 -- The state of a tracker after the lines of a log, which are given newest first.
-use Rattle.std.specs.Prelude.{◌≡◌, ℕ, Bool, true, false, ◌&&◌, ◌==◌, nat_le, max, List, [], ◌∷◌, length, Option, Some, None}
-use Rattle.std.specs.Prelude.{if◌then◌else◌, is_some, is_none, ◌+◌, ◌||◌, nat_lt, count_by, option_map, slice_get}
-use Rattle.hid_packet.specs.Commands.{CBOR, ERROR, KEEPALIVE}
+use Rattle.std.specs.Prelude.{ℕ, Bool, false, ◌&&◌, ◌==◌, nat_le, List, [], ◌++◌, replicate, take, drop, length}
+use Rattle.std.specs.Prelude.{Option, Some, None, if◌then◌else◌, ◌≡◌, true, max, ◌∷◌, is_some, is_none, ◌+◌, ◌||◌}
+use Rattle.std.specs.Prelude.{nat_lt, count_by, option_map, slice_get, position}
+use Rattle.byteorder.specs.Endian.{big_number}
+use Rattle.sha2.specs.Sha256.{sha256}
+use Rattle.authn_core.specs.Views.{Needed, nothing, presence, key, sign}
+use Rattle.hid_packet.specs.Packet.{BROADCAST, CBOR, ERROR, KEEPALIVE, Fields, initialization, continuation, CANCEL}
+use Rattle.token_session.specs.declared.input.Input.{Input}
+use Rattle.session_walk.specs.Ends.{has_status}
+use Rattle.session_walk.specs.declared.answer.ResponseStart.{ResponseStart}
+use Rattle.session_walk.specs.declared.awaited.AwaitedReply.{AwaitedReply}
+use Rattle.session_walk.specs.declared.awaited.AwaitedReply.TheVariants.{Key, Presence, Signature}
+use Rattle.session_walk.specs.declared.rp_id.RpId.{RpId}
+use Rattle.session_walk.specs.declared.transaction.Transaction.{Transaction}
 use Rattle.session_log.specs.declared.line.Line.{Line}
-use Rattle.session_log.specs.declared.line.Line.TheVariants.{Input, Sent, Comment, Count}
-use Rattle.session_walk.specs.declared.channel.{Channel.Channel, ContinuationMatch.ContinuationMatch, ResponseMessage.ResponseMessage}
-use Rattle.session_walk.specs.declared.ambiguous.{Ambiguous.Ambiguous}
-use Rattle.session_walk.specs.declared.transaction.{Ended.Ended, OpenTransaction.OpenTransaction, Transaction.Transaction}
+use Rattle.session_log.specs.declared.line.Line.TheVariants.{Input as InputLine, Sent, Comment, Count}
+use Rattle.session_walk.specs.declared.channel.Channel.{Channel}
+use Rattle.session_walk.specs.declared.channel.ContinuationMatch.{ContinuationMatch}
+use Rattle.session_walk.specs.declared.channel.ResponseMessage.{ResponseMessage}
+use Rattle.session_walk.specs.declared.ambiguous.Ambiguous.{Ambiguous}
+use Rattle.session_walk.specs.declared.transaction.Ended.{Ended}
+use Rattle.session_walk.specs.declared.transaction.OpenTransaction.{OpenTransaction}
 use Rattle.session_walk.specs.declared.transaction.End.{End}
 use Rattle.session_walk.specs.declared.transaction.End.TheVariants.{Status, Answered}
 use Rattle.session_walk.specs.declared.tracker.TransactionTracker.{TransactionTracker}
-use Rattle.session_walk.specs.Owners.{with_end, is_owner_unknown, is_in_process}
-use Rattle.session_walk.specs.Extents.{is_whole}
-use Rattle.session_walk.specs.Owners.{continued_message, match_if_incomplete}
-use Rattle.std.specs.Prelude.{position}
+use Rattle.session_walk.specs.Owners.{with_end, is_owner_unknown, is_in_process, continued_message}
+use Rattle.session_walk.specs.Owners.{match_if_incomplete}
+use Rattle.session_walk.specs.Messages.{is_whole}
 use Rattle.std.specs.Option.{option_and_then}
-use Rattle.hid_packet.specs.Packet.{Fields, initialization, continuation}
-use Rattle.hid_packet.specs.Commands.{CANCEL}
+use Rattle.token_session.specs.declared.input.Input.TheVariants as input
+
+-- ---- what a packet of the device states by itself, and the requests to which the caller's replies belong
+
+-- The reply that satisfies a need.
+abbrev pub reply_to_need : Needed → Option AwaitedReply
+reply_to_need nothing = None
+reply_to_need presence = Some Presence
+reply_to_need key = Some Key
+reply_to_need (sign id signed) = Some Signature
+
+-- The kind of the reply in an input, or None if the input is not a reply of the caller.
+abbrev pub kind_of_input : Input → Option AwaitedReply
+kind_of_input (input.Packet packet) = None
+kind_of_input input.Tick = None
+kind_of_input (input.Presence reply) = Some Presence
+kind_of_input (input.Key reply) = Some Key
+kind_of_input (input.Signature reply) = Some Signature
+
+-- No RP ID.
+abbrev pub no_rp_id : RpId
+no_rp_id = record { bytes = replicate 253 0; len = 0 }
+
+-- Whether the response is a CBOR response with status 0x00.
+abbrev pub is_success : ResponseStart → Bool
+is_success answer = (answer.command == CBOR) && has_status 0 answer.status
+
+-- Whether the transaction is an authenticatorGetAssertion.
+abbrev pub is_assertion : Option Transaction → Bool
+is_assertion None = false
+is_assertion (Some transaction) = has_status 2 transaction.command
+
+-- The channel that a response to INIT allocates (CTAP 2.1, section 11.2.9.1.3): the four bytes after the nonce, or the
+-- broadcast channel if the response is too short.
+abbrev pub allocated_channel : List ℕ → ℕ
+allocated_channel part = if nat_le 12 (length part) then big_number 4 (drop 8 part) else BROADCAST
+
+-- The bytes of an RP ID.
+abbrev pub rp_id_bytes : RpId → List ℕ
+rp_id_bytes rp = if nat_le rp.len (length rp.bytes) then take rp.len rp.bytes else []
+
+-- The identifier of a credential ID or user handle: the first 16 bytes of the hash over the RP ID hash and the ID.
+abbrev pub identifier : (rp id : List ℕ) → List ℕ
+identifier rp id = take 16 (sha256 (rp ++ id))
+
+-- ---- the latest timestamp, the last input, and the tracker's lists
 
 -- The latest timestamp after one more line.
 abbrev pub time_after_line : ℕ → Line → ℕ
-time_after_line now (Input timed) = max now timed.at
+time_after_line now (InputLine timed) = max now timed.at
 time_after_line now (Sent packet) = now
 time_after_line now Comment = now
 time_after_line now Count = now
@@ -32,7 +89,7 @@ time_of_lines (line ∷ before) = time_after_line (time_of_lines before) line
 
 -- The line of the last input after one more line.
 abbrev pub input_line_after : ℕ → ℕ → Line → ℕ
-input_line_after before number (Input timed) = number
+input_line_after before number (InputLine timed) = number
 input_line_after before number (Sent packet) = before
 input_line_after before number Comment = before
 input_line_after before number Count = before

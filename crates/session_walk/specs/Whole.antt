@@ -3,14 +3,14 @@
 use Rattle.std.specs.Prelude.{ℕ, Bool, true, false, not, ◌&&◌, ◌||◌, ◌==◌, nat_lt, ◌+◌, ◌-◌, List, []}
 use Rattle.std.specs.Prelude.{◌∷◌, ◌++◌, length, drop, remove, position, slice_get, Option, Some}
 use Rattle.std.specs.Prelude.{None, is_none, is_some, option_map, unwrap_or, if◌then◌else◌}
-use Rattle.hid_packet.specs.Commands.{BROADCAST, ERROR, INIT, KEEPALIVE}
+use Rattle.hid_packet.specs.Packet.{BROADCAST, ERROR, INIT, KEEPALIVE}
 use Rattle.session_walk.specs.Ends.{after_keepalive, has_status, keepalive_transaction, also_ends, contender_refused, can_answer, interrupted_end, is_ambiguous_part_of_any}
 use Rattle.session_walk.specs.Ends.{is_owner_undecided, with_unknown_ends, both_unidentified, is_for_contender}
 use Rattle.session_walk.specs.Ends.{refuses_stray, timeout_transaction, timed_out, ends_by_timeout}
-use Rattle.session_walk.specs.Extents.{is_whole}
+use Rattle.session_walk.specs.Messages.{is_whole}
 use Rattle.session_walk.specs.Owners.{is_in_process, transaction_of, with_unidentified, with_end, with_end_of, pending_init, is_complete_message, current_ended, after_idle, is_owner_unknown}
 use Rattle.session_walk.specs.Owners.{nonce_of, contender_accepted, ends_by_contender, IDLE_TIMEOUT_MS}
-use Rattle.session_walk.specs.Replies.{is_assertion, is_success, no_rp_id}
+use Rattle.session_walk.specs.Walks.{is_assertion, is_success, no_rp_id}
 use Rattle.session_walk.specs.declared.rp_id.RpId.{RpId}
 use Rattle.session_walk.specs.declared.answer.ResponseStart.{ResponseStart}
 use Rattle.session_walk.specs.declared.channel.{Channel.Channel, ResponseMessage.ResponseMessage, PendingInit.PendingInit}
@@ -24,7 +24,7 @@ use Rattle.session_walk.specs.declared.transaction.Transaction.{Transaction}
 use Rattle.session_walk.specs.declared.transaction.End.TheVariants.{Cut, Dropped, Forgotten, Refused}
 
 -- The result of a device packet: the channel, the ended transactions, the packet's transaction, and whether the
--- previous packet arrived too late.
+-- ambiguous continuation packet, if any, arrived too late.
 pub record PacketResult : Type 0 where
   pub channel : Channel
   pub ended : List Ended
@@ -257,8 +257,8 @@ both_lost_by_timeout c ended = record {
 }
 
 -- The result of ERROR 05 for the contender, unless it is unknown which message the device is processing.
-abbrev pub contender_lost : Option Ambiguous → Channel → List Ended → StartResult
-contender_lost ambiguous c ended =
+abbrev pub contender_timeout_result : Option Ambiguous → Channel → List Ended → StartResult
+contender_timeout_result ambiguous c ended =
     if is_owner_unknown c then both_lost_by_timeout c ended else contender_timed_out ambiguous c ended
 
 -- The result of ERROR 05 while the contender is incomplete. If the current message is complete, the contender timed
@@ -266,7 +266,7 @@ contender_lost ambiguous c ended =
 -- contender, which then timed out. Otherwise, the current message timed out, unless it is unknown which message did.
 abbrev pub one_of_two_timed_out : Option Ambiguous → ℕ → (contender current : OpenTransaction) → Channel → List Ended → StartResult
 one_of_two_timed_out ambiguous input contender current c ended =
-    if is_complete_message current then contender_lost ambiguous c ended
+    if is_complete_message current then contender_timeout_result ambiguous c ended
     else if nat_lt contender.delay 100 then current_timed_out ambiguous input (contender_accepted true c) (ends_by_contender true c ended)
     else if is_owner_undecided input c then both_lost_by_timeout c ended
     else current_timed_out ambiguous input c ended

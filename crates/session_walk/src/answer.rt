@@ -2,7 +2,7 @@
 
 ghost use Rattle.std.specs.Prelude.{◌≡◌, ◌&&◌};
 ghost use Rattle.session_walk.specs.Ends.{can_answer};
-ghost use Rattle.session_walk.specs.Replies.{allocated_channel, is_assertion, is_success};
+ghost use Rattle.session_walk.specs.Walks.{allocated_channel, is_assertion, is_success};
 
 use crate::command::GET_ASSERTION;
 use crate::entry::Role;

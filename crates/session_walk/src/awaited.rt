@@ -2,7 +2,7 @@
 
 ghost use Rattle.std.specs.Prelude.{◌≡◌};
 ghost use Rattle.authn_core.specs.Views.{to_needed};
-ghost use Rattle.session_walk.specs.Replies.{kind_of_input, reply_to_need};
+ghost use Rattle.session_walk.specs.Walks.{kind_of_input, reply_to_need};
 
 use authn_core::Need;
 use token_session::Input;

@@ -5,7 +5,7 @@ ghost use Rattle.std.specs.Prelude.{ℕ, count_by, false, is_none, option_map, p
 ghost use Rattle.std.specs.Option.{option_copied};
 ghost use Rattle.session_walk.specs.Channels.{AreWithoutAssertion, IsEvictedFirst, after_allocation, allocating_line, ends_by_allocation};
 ghost use Rattle.session_walk.specs.Channels.{first_open_after, may_any_be_processing, open_transactions, replaces_assertion, tracked_channel, with_forgotten};
-ghost use Rattle.session_walk.specs.Replies.{allocated_channel};
+ghost use Rattle.session_walk.specs.Walks.{allocated_channel};
 ghost use Rattle.session_walk.specs.Whole.{has_unfinished_response, is_idle, last_transaction};
 ghost use Rattle.session_walk.specs.declared.entry.Role.TheVariants.{Owned};
 

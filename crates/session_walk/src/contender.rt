@@ -4,7 +4,7 @@ ghost use Rattle.std.specs.Prelude.{◌≡◌, false, None, Some};
 ghost use Rattle.session_walk.specs.Owners.{contender_accepted, current_ended, ends_by_contender, transaction_of, with_end_of};
 ghost use Rattle.session_walk.specs.Ends.{is_owner_undecided, with_unknown_ends, both_unidentified};
 ghost use Rattle.std.specs.Prelude.{◌≤◌, length};
-ghost use Rattle.session_walk.specs.Replies.{no_rp_id};
+ghost use Rattle.session_walk.specs.Walks.{no_rp_id};
 ghost use Rattle.session_walk.specs.Whole.{init_at, without_init_at};
 
 use crate::channel::Channel;

@@ -1,6 +1,6 @@
 //! Tracks the credentials that are created in a log, and those that an excludeList contains.
 ghost use Rattle.std.specs.Prelude.{◌≡◌, ◌<◌, false};
-ghost use Rattle.session_walk.specs.Replies.{identifier};
+ghost use Rattle.session_walk.specs.Walks.{identifier};
 
 use crate::channel::ResponseMessage;
 use crate::command::{CREDENTIAL_MANAGEMENT, GET_ASSERTION, MAKE_CREDENTIAL, RESET};
@@ -18,7 +18,7 @@ const CREDENTIAL_MANAGEMENT_PREVIEW: u8 = 0x41;
 /// Flag AT of authenticator data: attested credential data included.
 pub const FLAG_AT: u8 = 0x40;
 
-/// Maximum number of tracked credentials, which are the latest ones. It is the capacity of this key.
+/// Maximum number of tracked credentials, which are the latest ones. It is the capacity of the program's key.
 const MAX_CREDENTIALS: usize = 64;
 
 /// Identifies a credential or an account: the first bytes of a hash over the RP ID hash and the credential ID or user

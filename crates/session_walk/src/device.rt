@@ -231,12 +231,12 @@ impl Channel {
         ensures ended { ended.new.0.items ≡ (response_result answer.now self.old ended.old.0.items).ended }
         ensures transaction { result ≡ transaction_of (response_result answer.now self.old ended.old.0.items).transaction }
     {
-        let exchange = self.answered(answer, ended);
+        let exchange = self.take_answered_message(answer, ended);
         self.record_response(answer, exchange)
     }
 
     /// Removes and returns the message to which a response belongs.
-    fn answered(
+    fn take_answered_message(
         &mut self,
         answer: &ResponseStart<'_>,
         ended: &mut EndedList,

@@ -5,7 +5,7 @@ ghost use Rattle.session_walk.specs.Owners.{with_end_of, current_ended};
 ghost use Rattle.session_walk.specs.Ends.{also_ends, interrupted_end, is_ambiguous_part_of_any, timeout_transaction};
 ghost use Rattle.session_walk.specs.Ends.{timed_out, ends_by_timeout};
 ghost use Rattle.session_walk.specs.Owners.{transaction_of};
-ghost use Rattle.session_walk.specs.Whole.{contender_lost, current_refused, current_timed_out, timeout_result, last_init_refused, refused_init, refused_start, start_refused, without_refused_start, can_refuse_init, error_result, refused as refusal_result};
+ghost use Rattle.session_walk.specs.Whole.{contender_timeout_result, current_refused, current_timed_out, timeout_result, last_init_refused, refused_init, refused_start, start_refused, without_refused_start, can_refuse_init, error_result, refused as refusal_result};
 
 use crate::ambiguous::Ambiguous;
 use crate::channel::Channel;
@@ -129,11 +129,11 @@ impl Channel {
         ambiguous: &Option<Ambiguous>,
         ended: &mut EndedList,
     ) -> (Option<Transaction>, bool)
-        ensures state { self.new ≡ (contender_lost ambiguous.now self.old ended.old.0.items).channel }
-        ensures ended { ended.new.0.items ≡ (contender_lost ambiguous.now self.old ended.old.0.items).ended }
+        ensures state { self.new ≡ (contender_timeout_result ambiguous.now self.old ended.old.0.items).channel }
+        ensures ended { ended.new.0.items ≡ (contender_timeout_result ambiguous.now self.old ended.old.0.items).ended }
         ensures transaction { result.0
-            ≡ (contender_lost ambiguous.now self.old ended.old.0.items).transaction }
-        ensures deferred { result.1 ≡ (contender_lost ambiguous.now self.old ended.old.0.items).deferred }
+            ≡ (contender_timeout_result ambiguous.now self.old ended.old.0.items).transaction }
+        ensures deferred { result.1 ≡ (contender_timeout_result ambiguous.now self.old ended.old.0.items).deferred }
     {
         if self.is_unclear() {
             self.end_as_unknown(ended);

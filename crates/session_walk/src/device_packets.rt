@@ -2,7 +2,7 @@
 //! (CTAP 2.1, section 11.2.4).
 ghost use Rattle.std.specs.Prelude.{◌≡◌, ◌<◌, ◌==◌, None, Some, IfSome};
 ghost use Rattle.hid_packet.specs.Packet.{fields};
-ghost use Rattle.hid_packet.specs.Commands.{CBOR as CBOR_COMMAND, ERROR as ERROR_COMMAND};
+ghost use Rattle.hid_packet.specs.Packet.{CBOR as CBOR_COMMAND, ERROR as ERROR_COMMAND};
 ghost use Rattle.session_walk.specs.Messages.{AddsData, CanBeKept, new_message, kept_at};
 ghost use Rattle.session_walk.specs.Lines.{PacketAddsData, PacketContinues, PacketBeginsKept};
 ghost use Rattle.session_walk.specs.declared.channel.{Channel.Channel as AnyChannel};

@@ -2,7 +2,7 @@
 ghost use Rattle.std.specs.Prelude.{◌≡◌, ◌↔◌, ◌&&◌, not, None, Some, IfSome, false, true, option_map};
 ghost use Rattle.session_walk.specs.Messages.{complete_bytes_at};
 ghost use Rattle.session_walk.specs.Channels.{may_name_prior};
-ghost use Rattle.session_walk.specs.Completed.{ShowsResolved, completed_bytes, message_bytes};
+ghost use Rattle.session_walk.specs.Lines.{ShowsResolved, completed_bytes, message_bytes};
 ghost use Rattle.session_walk.specs.Walks.{channel_on};
 ghost use Rattle.session_walk.specs.Whole.{last_transaction};
 

@@ -2,7 +2,7 @@
 ghost use Rattle.std.specs.Prelude.{◌≡◌, ◌≢◌, ◌<◌, ◌≤◌, ◌==◌, ℕ, Some, None, length, option_map, if◌then◌else◌};
 ghost use Rattle.session_walk.specs.Messages.{KeptMessage, all_bytes, new_message, continued, kept_at, evicted_line, released};
 ghost use Rattle.session_walk.specs.Messages.{AddsData, CanBeKept, KeepsOnly, complete_bytes_at};
-ghost use Rattle.hid_packet.specs.Limits.{MAX_MESSAGE_LEN};
+ghost use Rattle.hid_packet.specs.Packet.{MAX_MESSAGE_LEN};
 
 use arrayvec::ArrayVec;
 use hid_packet::MAX_MESSAGE_LEN;
@@ -11,9 +11,9 @@ use std::marker::Model;
 /// Maximum message length in bytes.
 pub const MESSAGE_BUFFER_LEN: usize = MAX_MESSAGE_LEN as usize;
 
-/// A message that is being received.
+/// A buffer for one message. It is free if `line` is 0.
 #[derive(Drop)]
-struct Kept {
+struct MessageBuffer {
     /// Line of its initialization packet, or 0 if there is none.
     line: u64,
     /// Length of the complete message in bytes.
@@ -21,9 +21,9 @@ struct Kept {
     bytes: ArrayVec<u8, MESSAGE_BUFFER_LEN>,
 }
 
-impl Model for Kept {
+impl Model for MessageBuffer {
     ghost use Rattle.std.specs.Prelude.{◌≤◌, length};
-    ghost use Rattle.hid_packet.specs.Limits.{MAX_MESSAGE_LEN};
+    ghost use Rattle.hid_packet.specs.Packet.{MAX_MESSAGE_LEN};
     ghost use Rattle.session_walk.specs.Messages.{KeptMessage};
 
     ghost Value = { KeptMessage };
@@ -33,12 +33,12 @@ impl Model for Kept {
     ghost invariant = { λ k. (k.size ≤ MAX_MESSAGE_LEN) × (length k.bytes.items ≤ k.size) };
 }
 
-impl Kept {
+impl MessageBuffer {
     /// Returns an empty buffer.
     fn none() -> Self
         ensures { result.line ≡ 0 }
     {
-        Kept {
+        MessageBuffer {
             line: 0,
             size: 0,
             bytes: ArrayVec::new(),
@@ -90,8 +90,8 @@ impl Kept {
 /// refuses others at once.
 #[derive(Drop)]
 pub struct MessageBuffers {
-    first: Kept,
-    second: Kept,
+    first: MessageBuffer,
+    second: MessageBuffer,
     /// Whether `first` was used last.
     is_first_last: bool,
 }
@@ -113,14 +113,14 @@ impl MessageBuffers {
         ensures { (line : ℕ) → kept_at result line ≡ None }
     {
         MessageBuffers {
-            first: Kept::none(),
-            second: Kept::none(),
+            first: MessageBuffer::none(),
+            second: MessageBuffer::none(),
             is_first_last: false,
         }
     }
 
-    /// Begins a message of `length` bytes, in the buffer that wasn't used last. Empty messages and those over 7609
-    /// bytes are not kept.
+    /// Begins a message of `length` bytes, in a free buffer or else in the one that wasn't used last. Empty messages
+    /// and those over 7609 bytes are not kept.
     pub fn begin(&mut self, line: u64, length: u16, part: &[u8])
         ensures kept { 0 < line → CanBeKept length
             → kept_at self.new line ≡ Some (new_message line length part.now) }

@@ -1,7 +1,7 @@
 //! The RP ID of a request.
 
 ghost use Rattle.std.specs.Prelude.{◌≡◌, IfSome};
-ghost use Rattle.session_walk.specs.Replies.{no_rp_id, rp_id_bytes};
+ghost use Rattle.session_walk.specs.Walks.{no_rp_id, rp_id_bytes};
 
 use crate::map_iter::{item_at, value_at};
 use ctap_cbor::Item;
@@ -9,7 +9,7 @@ use ctap_cbor::Item;
 /// Maximum length in bytes of an RP ID that is kept: that of a domain name.
 const MAX_RP_ID_LEN: usize = 253;
 
-/// An RP ID, or none. Longer ones are not kept.
+/// An RP ID of at most 253 bytes, or none. A longer one is not kept.
 #[derive(Clone, Copy)]
 pub struct RpId {
     bytes: [u8; MAX_RP_ID_LEN],

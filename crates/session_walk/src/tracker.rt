@@ -2,12 +2,12 @@
 //! transactions that end at the line.
 ghost use Rattle.std.specs.Prelude.{◌≡◌, ◌<◌, ◌==◌, ℕ, None, Some, IfSome, option_map, if◌then◌else◌};
 ghost use Rattle.hid_packet.specs.Packet.{channel_of, fields};
-ghost use Rattle.hid_packet.specs.Commands.{CBOR as CBOR_COMMAND};
+ghost use Rattle.hid_packet.specs.Packet.{CBOR as CBOR_COMMAND};
 ghost use Rattle.session_walk.specs.Messages.{AddsData, CanBeKept, KeepsOnly, new_message, continued, kept_at};
 ghost use Rattle.session_walk.specs.Lines.{PacketAddsData, PacketContinues, KeepsAll, PacketBeginsKept, LineAddsData, LineContinues, LineKeeps};
-ghost use Rattle.session_walk.specs.Completed.{EndsNothing};
+ghost use Rattle.session_walk.specs.Lines.{EndsNothing};
 ghost use Rattle.std.specs.Prelude.{List, [], ◌∷◌, ◌+◌, length, true, false, slice_get};
-ghost use Rattle.hid_packet.specs.Commands.{ERROR as ERROR_COMMAND, INIT as INIT_COMMAND};
+ghost use Rattle.hid_packet.specs.Packet.{ERROR as ERROR_COMMAND, INIT as INIT_COMMAND};
 ghost use Rattle.session_log.specs.declared.line.{Line.Line as AnyLine, Line.TheVariants.Input as InputLine};
 ghost use Rattle.session_walk.specs.declared.{channel.Channel.Channel as AnyChannel, ambiguous.Ambiguous.Ambiguous as AnyDoubtful};
 ghost use Rattle.session_walk.specs.Owners.{continued_message, match_if_incomplete};

@@ -2,7 +2,7 @@
 ghost use Rattle.std.specs.Prelude.{◌≡◌, ◌<◌, ◌+◌, ◌-◌, ◌++◌, ◌↔◌, min, Some, None, true, [], ◌∷◌, if◌then◌else◌};
 ghost use Rattle.arrayvec.specs.ArrayVec.{array_vec_len};
 ghost use Rattle.session_walk.specs.Channels.{first_after};
-ghost use Rattle.session_walk.specs.Extents.{bytes_received, is_whole};
+ghost use Rattle.session_walk.specs.Messages.{bytes_received, is_whole};
 ghost use Rattle.session_walk.specs.Owners.{with_end, is_in_process};
 ghost use Rattle.session_walk.specs.Whole.{needs_presence, no_names};
 ghost use Rattle.std.specs.Prelude.{◌&&◌, ◌||◌, ◌==◌, not};

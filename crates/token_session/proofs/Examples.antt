@@ -8,22 +8,22 @@ use Rattle.std.specs.Prelude.{replicate, reverse, true, zero, suc, Option, Some,
 use Rattle.cred_table.specs.declared.row.Row.{Row}
 use Rattle.authn_core.specs.{State.AwaitSelectionPresence, State.Waits, Turn.Start}
 use Rattle.authn_core.specs.Turn as core_turn
-use Rattle.ctap_message.specs.{Answers.assertion_answer, Answers.info_answer, Requests.read_of}
+use Rattle.ctap_message.specs.{Responses.assertion_answer, Responses.info_answer, Requests.read_of}
 use Rattle.hid_assemble.specs.Assembly.{Message, accepted, is_overdue, message_after, open_after}
 use Rattle.hid_assemble.specs.Verdicts.{class_verdict, verdict}
 use Rattle.hid_assemble.specs.Table.{cont_packet_row, init_packet_row, packet_class}
 use Rattle.hid_packet.specs.Message.{continuation_packet, continuation_packets, initialization_packet, padded_packet, message_packets}
 use Rattle.hid_packet.specs.Packet.{channel, command, continuation_data, initialization_data, is_initialization}
 use Rattle.hid_packet.specs.Packet.{message_length, sequence}
-use Rattle.token_session.specs.Arriving.{MessageArrives, received_after_all}
+use Rattle.token_session.specs.Carried.{MessageArrives, received_after_all}
 use Rattle.token_session.specs.Inputs.{requests_channel, channels_allocated, is_channel_input, channel_inputs}
-use Rattle.token_session.specs.Messages.{completed_message, message_completed_at, completed_long_message, continues_until, is_last_packet, is_long, is_next_packet}
-use Rattle.token_session.specs.Messages.{is_open, open_among, open_at, packets_of}
+use Rattle.token_session.specs.Inputs.{completed_message, message_completed_at, completed_long_message, continues_until, is_last_packet, is_long, is_next_packet}
+use Rattle.token_session.specs.Inputs.{is_open, open_among, open_at, packets_of}
 use Rattle.token_session.specs.History.{admits, core, event, held, receive, received, last_keepalive, packet_event, sent}
 use Rattle.token_session.specs.History.{sent_at, service_packets, table_packets, time_packets}
-use Rattle.token_session.specs.{Law.append_inputs, Law.run_sent, Events.keepalive_due, declared.input.Timed.Timed}
+use Rattle.token_session.specs.{History.append_inputs, History.run_sent, Machine.keepalive_due, declared.input.Timed.Timed}
 use Rattle.token_session.specs.Machine.{MachineState, response_sends_keepalive, machine, time_passed, start_state, turn}
-use Rattle.token_session.specs.Replies.{answer_packets, init_response, row_packets}
+use Rattle.token_session.specs.Machine.{answer_packets, init_response, row_packets}
 use Rattle.token_session.specs.declared.input.Input.TheVariants.{Packet, Signature, Tick}
 
 abbrev digit : ℕ → ℕ

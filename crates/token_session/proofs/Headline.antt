@@ -7,9 +7,9 @@ use Rattle.ctap_message.specs.Requests.{steps_of}
 use Rattle.authn_core.specs.Turn.{Start}
 use Rattle.token_session.specs.declared.input.{Sent.Sent, Timed.Timed, Meters.Meters}
 use Rattle.token_session.specs.{Carried.ArriveWithFullPackets, declared.driver.DriveFault.DriveFault, Inputs.ReceivedInput}
-use Rattle.token_session.specs.Drive.{numbered_packet, inputs_done, packet_of}
-use Rattle.token_session.specs.{History.received, History.sent, Headline.AllReceivedInPackets, Headline.IsAnswered}
-use Rattle.token_session.specs.Law.{with_input_number, append_inputs, sent_from, sent_now, turns_send}
+use Rattle.token_session.specs.Meters.{numbered_packet, inputs_done, packet_of}
+use Rattle.token_session.specs.{History.received, History.sent, Answered.AllReceivedInPackets, Answered.IsAnswered}
+use Rattle.token_session.specs.History.{with_input_number, append_inputs, sent_from, sent_now, turns_send}
 use Rattle.token_session.specs.Meters.{requests, meters_of, session_of, SessionState, IsStateAfter}
 use Rattle.token_session.proofs.{Carrying.finished_is_carried, Follows.machine_follows, Follows.step_sends}
 

@@ -1,21 +1,8 @@
-pub mod Opens
 pub mod Serve
-pub mod Safety
-pub mod Follows
-pub mod Bounds
-pub mod Few
-pub mod Passing
-pub mod Serving
-pub mod Metering
 mod Examples
 pub mod Sizes
+pub mod Follows
 pub mod Carrying
-pub mod Answering
-pub mod Noted
-pub mod Noise
-pub mod Drives
-pub mod Credentials
-pub mod Arriving
 pub mod Answered
 pub mod Headline
-pub mod Turned
+pub mod Metering

@@ -1,24 +1,42 @@
--- The packets that are sent for a history, defined by its inputs alone (CTAP 2.1, section 11.2.5). For each input:
--- whether it begins a message, the authenticator's reaction to its event, and the packets sent. The transport is
--- defined with positions in lists of inputs and with filters; the authenticator is defined by its state after each
--- event.
+-- The packets that are sent for a history, defined by its inputs alone (CTAP 2.1, section 11.2.5).
 use Rattle.std.specs.Prelude.{ℕ, Bool, not, ◌&&◌, ◌||◌, ◌==◌, nat_le, List, [], ◌∷◌, ◌++◌, max, Option, Some, None}
-use Rattle.std.specs.Prelude.{option_map, is_some, is_none, if◌then◌else◌, length, unwrap_or}
+use Rattle.std.specs.Prelude.{option_map, is_some, is_none, if◌then◌else◌, length, unwrap_or, ◌≡◌, ◌+◌}
 use Rattle.std.specs.List.{list_any}
-use Rattle.hid_packet.specs.Commands.{PING, INIT, CBOR, CANCEL, KEEPALIVE}
-use Rattle.hid_packet.specs.Limits.{data_capacity}
-use Rattle.hid_packet.specs.Packet.{channel, is_initialization, command, message_length, sequence, is_command}
-use Rattle.hid_assemble.specs.{Table.is_allocated, Table.is_busy_here, Table.init_packet_row, Assembly.Message}
-use Rattle.authn_core.specs.State.{Event, Cancel, Drop}
-use Rattle.authn_core.specs.Turn.{Start, CoreState, working_channel, first_state, waiting}
-use Rattle.token_session.specs.declared.input.{Input.Input, Input.TheVariants.Packet, Timed.Timed}
-use Rattle.token_session.specs.Inputs.{ReceivedInput, latest_time, is_packet, channels_allocated}
-use Rattle.token_session.specs.Messages.{MessageStart, open_at, completed_message, message_completed_at}
-use Rattle.token_session.specs.Replies.{error, row_packets, ping_packets, request_event}
-use Rattle.token_session.specs.Events.{reply_event, event_core, event_packets, keepalive_packets, keepalive_due}
+use Rattle.hid_packet.specs.Packet.{PING, INIT, CBOR, CANCEL, KEEPALIVE, data_capacity, channel, is_initialization}
+use Rattle.hid_packet.specs.Packet.{command, message_length, sequence, is_command}
+use Rattle.hid_assemble.specs.Table.{is_allocated, is_busy_here, init_packet_row, Open}
+use Rattle.hid_assemble.specs.Assembly.{Message, Assembly, is_overdue}
+use Rattle.authn_core.specs.State.{Event, Cancel, Drop, Request as Asks}
+use Rattle.authn_core.specs.Turn.{Start, CoreState, working_channel, first_state, waiting, core_refusal}
+use Rattle.token_session.specs.declared.input.Input.{Input}
+use Rattle.token_session.specs.declared.input.Input.TheVariants.{Packet}
+use Rattle.token_session.specs.declared.input.Timed.{Timed}
+use Rattle.token_session.specs.Inputs.{ReceivedInput, latest_time, is_packet, channels_allocated, MessageStart}
+use Rattle.token_session.specs.Inputs.{open_at, completed_message, message_completed_at, message_start, is_open}
+use Rattle.token_session.specs.Inputs.{to_open}
+use Rattle.token_session.specs.Machine.{error, row_packets, ping_packets, request_event, reply_event, event_core}
+use Rattle.token_session.specs.Machine.{event_packets, keepalive_packets, keepalive_due, MachineState, machine, turn}
+use Rattle.token_session.specs.Machine.{assembly_after, input_event, input_verdict, time_passed}
+use Rattle.std.specs.Option.{option_or}
+use Rattle.hid_assemble.specs.Refusals.{last_packet_time}
+use Rattle.hid_assemble.specs.declared.refusal.Refusal.{Refusal as TransportRefusal}
+use Rattle.hid_assemble.specs.declared.refusal.Refusal.TheVariants.{Overdue}
+use Rattle.hid_assemble.specs.declared.verdict.Verdict.{Verdict}
+use Rattle.hid_assemble.specs.declared.verdict.Verdict.TheVariants.{Refuse}
+use Rattle.ctap_message.specs.declared.fault.RequestFault.{RequestFault}
+use Rattle.ctap_message.specs.RequestFaults.{fault_in}
+use Rattle.authn_core.specs.declared.refusal.Refusal.{Refusal as CommandRefusal}
+use Rattle.authn_core.specs.declared.refusal.Refusal.TheVariants.{BadRequest}
+use Rattle.token_session.specs.declared.cause.Cause.{Cause}
+use Rattle.token_session.specs.declared.cause.Cause.TheVariants.{Transport, Command, Request}
+use Rattle.token_session.specs.declared.cause.Causes.{Causes as TwoCauses}
 
--- The event of a packet, if any: CANCEL or INIT ends the pending request of its channel; the last packet of a CBOR
--- message is a request.
+-- For each input: whether it begins a message, the authenticator's reaction to its event, and the packets sent. The
+-- transport is defined with positions in lists of inputs and with filters; the authenticator is defined by its state
+-- after each event.
+
+-- The event of a packet, if any: CANCEL or an INIT of 8 bytes ends the pending request of its channel; the last packet
+-- of a CBOR message is a request.
 unfoldable pub packet_event : Option ℕ → Option Message → List ℕ → Option Event
 packet_event work m p =
     if is_command CANCEL p && is_busy_here work (channel p) then Some Cancel
@@ -118,6 +136,122 @@ unfoldable pub sent : Start → List ReceivedInput → List (List ℕ)
 sent start [] = []
 sent start (e ∷ past) = sent start past ++ sent_at start e past
 
--- The number of data bytes of the open message that were received.
+-- The number of data bytes of the open message that were received, or 0 if no message is open.
 unfoldable pub held : Start → List ReceivedInput → ℕ
 held start h = unwrap_or (option_map (λ b. data_capacity (length b.own)) (open_at h (latest_time start h))) 0
+
+-- ---- the state of the transport and the authenticator after a history, and the packets that are sent for it
+
+-- The state that a history defines.
+unfoldable pub state_of : Start → List ReceivedInput → MachineState
+state_of start h = record {
+  now = latest_time start h;
+  given = channels_allocated h;
+  current = option_map to_open (open_at h (latest_time start h));
+  core = core start h;
+  keepalive_at = last_keepalive start h;
+}
+
+-- The state is the one that `state_of` defines for the history.
+abbrev pub IsMachineAfter : MachineState → Start → List Timed → Type 0
+IsMachineAfter s start h = s ≡ state_of start (received start h)
+
+-- The packets that are sent for input `x` after history `h`.
+unfoldable pub sent_now : Start → List Timed → Timed → List (List ℕ)
+sent_now start h x = sent_at start (received_after start h x) (received start h)
+
+-- The event of an input after a history.
+abbrev pub event_at : Start → ReceivedInput → List ReceivedInput → Option Event
+event_at start e past = event_after (core start past) e past
+
+-- The history after the inputs of a list were added to it, newest first.
+abbrev pub append_inputs : List Timed → List Timed → List Timed
+append_inputs [] h = h
+append_inputs (x ∷ xs) h = append_inputs xs (x ∷ h)
+
+-- The packets of an input, each with the input's number.
+abbrev pub with_input_number : ℕ → List (List ℕ) → List (ℕ × List ℕ)
+with_input_number n [] = []
+with_input_number n (p ∷ ps) = (n, p) ∷ with_input_number n ps
+
+-- The packets that are sent for a list of inputs after a history, in order, each with the number of its input.
+abbrev pub sent_from : ℕ → Start → List Timed → List Timed → List (ℕ × List ℕ)
+sent_from n start h [] = []
+sent_from n start h (x ∷ xs) = with_input_number n (sent_now start h x) ++ sent_from (n + 1) start (x ∷ h) xs
+
+-- The composed machine's state after the inputs of a list.
+abbrev pub run_state : MachineState → List Timed → MachineState
+run_state s [] = s
+run_state s (x ∷ xs) = run_state (turn s x).state xs
+
+-- The packets that the composed machine sends for the inputs of a list, each with the number of its input. The first
+-- input has the number `n`.
+abbrev pub run_sent : ℕ → MachineState → List Timed → List (ℕ × List ℕ)
+run_sent n s [] = []
+run_sent n s (x ∷ xs) = with_input_number n (turn s x).packets ++ run_sent (n + 1) (turn s x).state xs
+
+-- The packets that the composed machine sends for the inputs of a history, in order.
+unfoldable pub turns_send : Start → List Timed → List (List ℕ)
+turns_send start [] = []
+turns_send start (x ∷ past) = turns_send start past ++ (turn (machine start past) x).packets
+
+-- The beginnings of all messages that are open at time `t`, newest first.
+unfoldable pub all_open : List ReceivedInput → List ReceivedInput → ℕ → List MessageStart
+all_open later [] t = []
+all_open later (e ∷ before) t =
+    if is_open e later t then message_start e later ∷ all_open (e ∷ later) before t else all_open (e ∷ later) before t
+
+-- Whether one of these packets is a KEEPALIVE.
+abbrev pub has_keepalive : List (List ℕ) → Bool
+has_keepalive packets = list_any (is_command KEEPALIVE) packets
+
+-- Whether a message that was open before is no longer open because it timed out.
+abbrev pub is_timed_out : Option MessageStart → Option MessageStart → Bool
+is_timed_out before now = is_some before && is_none now
+
+-- ---- why an ERROR packet or a status other than 0 is sent, from the state of the transport and the authenticator
+
+-- The cause of dropping a message that timed out, if any.
+unfoldable pub time_cause : Option Open → ℕ → Option TransportRefusal
+time_cause current at = if is_overdue current at then Some (Overdue (last_packet_time current) at) else None
+
+-- The cause of a verdict that rejects a packet, or None for other verdicts.
+abbrev pub verdict_cause : Verdict → Option Cause
+verdict_cause (Refuse cid why) = Some (Transport why)
+verdict_cause v = None
+
+-- The cause for the first check that a request fails, if any.
+abbrev pub request_cause : Option RequestFault → Option Cause
+request_cause None = None
+request_cause (Some fault) = Some (Request fault)
+
+-- The cause for the refusal of an event, if any: the check that the request fails, or else the refusal itself.
+abbrev pub command_cause : Event → Option CommandRefusal → Option Cause
+command_cause e None = None
+command_cause (Asks cid bytes) (Some (BadRequest status)) = request_cause (fault_in bytes)
+command_cause e (Some why) = Some (Command why)
+
+-- The cause for which the authenticator refuses an event, or None.
+abbrev pub event_cause : CoreState → ℕ → Option Event → Option Cause
+event_cause core at None = None
+event_cause core at (Some e) = command_cause e (core_refusal core at e)
+
+-- The cause for which the transport rejects an input, or the authenticator refuses its event.
+abbrev pub input_cause : MachineState → Input → Option Cause
+input_cause s i =
+    let a : Assembly = record { given = s.given; current = s.current; finished = [] } in
+    let v = input_verdict a (working_channel s.core) i in
+    let after = assembly_after a s.now (working_channel s.core) i in
+    option_or (verdict_cause v) (event_cause s.core s.now (input_event i v after.finished))
+
+-- The causes for one input: why a message was dropped before the input because it timed out, and why the input is
+-- refused.
+unfoldable pub causes_of : MachineState → Timed → TwoCauses
+causes_of s x = let at = max s.now x.at in record {
+  time = time_cause s.current at;
+  input = input_cause (time_passed s at).state x.input;
+}
+
+-- The causes for the next input after a history.
+unfoldable pub causes_after : Start → List Timed → Timed → TwoCauses
+causes_after start h x = causes_of (state_of start (received start h)) x

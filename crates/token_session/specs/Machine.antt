@@ -1,13 +1,166 @@
+-- The composed machine of transport and authenticator, and the packets that it sends (CTAP 2.1, section 11.2).
+use Rattle.std.specs.Prelude.{ℕ, ◌+◌, ◌==◌, List, [], ◌∷◌, ◌++◌, take, Option, Some, None, option_map, if◌then◌else◌}
+use Rattle.std.specs.Prelude.{Bool, false, nat_le, not, ◌&&◌, max}
+use Rattle.byteorder.specs.Endian.{big_bytes}
+use Rattle.hid_packet.specs.Packet.{PING, INIT, CBOR, KEEPALIVE, ERROR, BROADCAST, channel, initialization_data}
+use Rattle.hid_packet.specs.Packet.{KEEPALIVE_PERIOD, fields}
+use Rattle.hid_packet.specs.Message.{message_packets}
+use Rattle.hid_assemble.specs.Table.{is_busy_here, Open}
+use Rattle.hid_assemble.specs.Assembly.{Message, Assembly, accepted, is_overdue, still_open}
+use Rattle.hid_assemble.specs.declared.table.ReplyRow.{ReplyRow}
+use Rattle.hid_assemble.specs.declared.table.ReplyRow.TheVariants.{NoSuchCommand, BadLength, NoSuchChannel}
+use Rattle.hid_assemble.specs.declared.table.ReplyRow.TheVariants.{InitLength, InitFull, InitNew, InitAgain}
+use Rattle.hid_assemble.specs.declared.table.ReplyRow.TheVariants.{BusyElsewhere, BusyHere, BrokenOff}
+use Rattle.authn_core.specs.State.{Event, Request, Answer, Answered, Waits, KeyIs, PresenceIs, SignatureIs, Cancel}
+use Rattle.authn_core.specs.State.{Drop}
+use Rattle.authn_core.specs.Turn.{Work, CoreState, turn as authenticator_turn, waiting, Start, core_answer}
+use Rattle.authn_core.specs.Turn.{working_channel, first_state}
+use Rattle.token_session.specs.declared.input.Input.{Input}
+use Rattle.token_session.specs.declared.input.Input.TheVariants.{Presence, Key, Signature, Packet}
+use Rattle.hid_assemble.specs.Verdicts.{verdict}
+use Rattle.hid_assemble.specs.Refusals.{code_number}
+use Rattle.hid_assemble.specs.declared.verdict.Verdict.{Verdict}
+use Rattle.hid_assemble.specs.declared.verdict.Verdict.TheVariants.{GreetAndDrop, CancelWork, Ignored, Kept, Finished}
+use Rattle.hid_assemble.specs.declared.verdict.Verdict.TheVariants.{Refuse, Greet}
+use Rattle.token_session.specs.declared.input.Timed.{Timed}
+
+-- ---- the packets that are sent: those of the reply table, errors, KEEPALIVEs and responses (CTAP 2.1, section 11.2.9)
+
+-- The response to INIT: nonce, channel, protocol version 2, device version 1.0.0, capabilities CBOR and NMSG (CTAP 2.1,
+-- section 11.2.9.1.3).
+unfoldable pub init_response : (on cid : ℕ) → (nonce : List ℕ) → List (List ℕ)
+init_response on cid nonce = message_packets on INIT (nonce ++ big_bytes 4 cid ++ 2 ∷ 1 ∷ 0 ∷ 0 ∷ 0x0c ∷ [])
+
+-- An ERROR packet with this error code (CTAP 2.1, section 11.2.9.1.6).
+abbrev pub error : ℕ → ℕ → List (List ℕ)
+error cid code = message_packets cid ERROR (code ∷ [])
+
+-- A KEEPALIVE packet with this status (CTAP 2.1, section 11.2.9.1.7).
+abbrev pub keepalive : ℕ → ℕ → List (List ℕ)
+keepalive cid status = message_packets cid KEEPALIVE (status ∷ [])
+
+-- The packets that a row of the reply table sends by itself.
+unfoldable pub row_packets : ℕ → List ℕ → ReplyRow → List (List ℕ)
+row_packets given p NoSuchChannel = error (channel p) 0x0b
+row_packets given p InitLength = error (channel p) 0x03
+row_packets given p InitFull = error (channel p) 0x7f
+row_packets given p InitNew = init_response BROADCAST (given + 1) (take 8 (initialization_data p))
+row_packets given p InitAgain = init_response (channel p) (channel p) (take 8 (initialization_data p))
+row_packets given p BusyElsewhere = error (channel p) 0x06
+row_packets given p BusyHere = error (channel p) 0x06
+row_packets given p BrokenOff = error (channel p) 0x04
+row_packets given p NoSuchCommand = error (channel p) 0x01
+row_packets given p BadLength = error (channel p) 0x03
+row_packets given p _ = []
+
+-- The response to a PING: the same message (CTAP 2.1, section 11.2.9.1.4).
+abbrev pub ping_packets : Option Message → List (List ℕ)
+ping_packets None = []
+ping_packets (Some m) = if m.cmd == PING then message_packets m.cid PING m.bytes else []
+
+-- The request in a CBOR message, if any.
+abbrev pub request_event : Option Message → Option Event
+request_event None = None
+request_event (Some m) = if m.cmd == CBOR then Some (Request m.cid m.bytes) else None
+
+-- The KEEPALIVE status of the pending request.
+abbrev pub status_of : Option Work → Option ℕ
+status_of work = option_map (λ w. w.status) work
+
+-- The channel of the response to an event.
+abbrev pub response_channel : Option Work → Event → Option ℕ
+response_channel work (Request cid bytes) = Some cid
+response_channel work e = option_map (λ w. w.cid) work
+
+-- The packets for an answer: a response, or a KEEPALIVE if the status is new.
+unfoldable pub answer_packets : Option ℕ → Option ℕ → Answer → List (List ℕ)
+answer_packets (Some cid) before (Answered bytes) = message_packets cid CBOR bytes
+answer_packets (Some cid) before (Waits status) = if is_busy_here before status then [] else keepalive cid status
+answer_packets _ before _ = []
+
+-- The effect of an event on the authenticator, the packets that are sent for the event, and when a KEEPALIVE is due
+-- (CTAP 2.1, sections 11.2.9.1.5 and 11.2.9.1.7). They depend only on the time, the authenticator and the event.
+
+-- The event for a reply of the caller.
+abbrev pub reply_event : Input → Option Event
+reply_event (Presence reply) = Some (PresenceIs reply)
+reply_event (Key key) = Some (KeyIs key)
+reply_event (Signature signature) = Some (SignatureIs signature)
+reply_event other = None
+
+-- The authenticator after an event, if any.
+abbrev pub event_core : CoreState → ℕ → Option Event → CoreState
+event_core core at None = core
+event_core core at (Some e) = record core { state = (authenticator_turn core.setup core.state at e).state }
+
+-- The packets that are sent for an event, if any.
+abbrev pub event_packets : CoreState → ℕ → Option Event → List (List ℕ)
+event_packets k at None = []
+event_packets k at (Some e) = answer_packets (response_channel (waiting k) e) (status_of (waiting k))
+    (authenticator_turn k.setup k.state at e).answer
+
+-- Whether a KEEPALIVE is due: a request is pending, and at least `KEEPALIVE_PERIOD` passed since the last KEEPALIVE or,
+-- without one, since time 0 (CTAP 2.1, section 11.2.9.1.7).
+unfoldable pub keepalive_due : Option Work → ℕ → ℕ → Bool
+keepalive_due None keepalive_at at = false
+keepalive_due (Some w) keepalive_at at = nat_le (keepalive_at + KEEPALIVE_PERIOD) at
+
+-- The KEEPALIVE of the pending request.
+abbrev pub keepalive_packets : Option Work → List (List ℕ)
+keepalive_packets None = []
+keepalive_packets (Some w) = keepalive w.cid w.status
+
+-- The packets of a verdict, the authenticator's event for a verdict, and the request of an event (CTAP 2.1, section
+-- 11.2.9).
+
+-- The packets that a verdict sends by itself, without those of an event. `bytes` is the message that the packet
+-- completed.
+abbrev pub verdict_packets : Verdict → List ℕ → List (List ℕ)
+verdict_packets Ignored bytes = []
+verdict_packets Kept bytes = []
+verdict_packets (Finished cid cmd) bytes = if cmd == PING then message_packets cid PING bytes else []
+verdict_packets (Refuse cid why) bytes = error cid (code_number why)
+verdict_packets (Greet on cid nonce) bytes = init_response on cid nonce
+verdict_packets (GreetAndDrop on cid nonce) bytes = init_response on cid nonce
+verdict_packets CancelWork bytes = []
+
+-- The authenticator's event for a verdict, if any. `bytes` is the message that the packet completed.
+abbrev pub verdict_event : Verdict → List ℕ → Option Event
+verdict_event Ignored bytes = None
+verdict_event Kept bytes = None
+verdict_event (Finished cid cmd) bytes = if cmd == CBOR then Some (Request cid bytes) else None
+verdict_event (Refuse cid why) bytes = None
+verdict_event (Greet on cid nonce) bytes = None
+verdict_event (GreetAndDrop on cid nonce) bytes = Some Drop
+verdict_event CancelWork bytes = Some Cancel
+
+-- The channel of the pending request.
+abbrev pub channel_of : Option Work → Option ℕ
+channel_of work = option_map (λ (w : Work). w.cid) work
+
+-- The transport's verdict on an input. Inputs other than packets are ignored.
+abbrev pub input_verdict : Assembly → Option ℕ → Input → Verdict
+input_verdict a work (Packet p) = verdict a work (fields p.0)
+input_verdict a work other = Ignored
+
+-- The state of message assembly after an input.
+abbrev pub assembly_after : Assembly → (at : ℕ) → Option ℕ → Input → Assembly
+assembly_after a at work (Packet p) = accepted a at work (fields p.0)
+assembly_after a at work other = a
+
+-- The authenticator's event for an input with this verdict, if any.
+abbrev pub input_event : Input → Verdict → List ℕ → Option Event
+input_event (Packet p) v bytes = verdict_event v bytes
+input_event other v bytes = reply_event other
+
+-- The message of the event if it is a request.
+abbrev pub request_in : Option Event → Option (List ℕ)
+request_in None = None
+request_in (Some (Request cid bytes)) = Some bytes
+request_in (Some other) = None
+
 -- The composed machine: a state of the transport and the authenticator together, and the effect of an input on this
 -- state. It doesn't contain the history.
-use Rattle.std.specs.Prelude.{ℕ, Bool, false, not, ◌&&◌, List, [], ◌∷◌, ◌++◌, max, Option, Some, None, if◌then◌else◌}
-use Rattle.hid_assemble.specs.{Table.Open, Table.is_busy_here, Assembly.Assembly, Assembly.is_overdue, Assembly.still_open}
-use Rattle.authn_core.specs.State.{Answer, Event, Waits}
-use Rattle.authn_core.specs.Turn.{Start, CoreState, core_answer, working_channel, first_state, waiting}
-use Rattle.token_session.specs.Replies.{error, response_channel, status_of}
-use Rattle.token_session.specs.Effects.{assembly_after, input_event, input_verdict, verdict_packets}
-use Rattle.token_session.specs.Events.{event_core, event_packets, keepalive_due, keepalive_packets}
-use Rattle.token_session.specs.declared.input.{Input.Input, Timed.Timed}
 
 -- The state: the latest time, the number of allocated channels, the open message, the authenticator, and the time of
 -- the last KEEPALIVE.

@@ -1,14 +1,24 @@
--- The meters of a session: as a history defines them, and as each input changes them.
+-- Processing a list of inputs in a session, and the meters of a session.
 use Rattle.std.specs.Prelude.{◌≡◌, ◌≤◌, ℕ, ◌+◌, ◌-◌, ◌*◌, List, [], ◌∷◌, length, max, min, sum_by, Option, Some, None}
+use Rattle.std.specs.Prelude.{◌<◌, ◌++◌, take, Result, Ok, Err}
 use Rattle.std.specs.List.{cons_option}
 use Rattle.hid_assemble.specs.Assembly.{stored_len}
 use Rattle.authn_core.specs.Turn.{Start}
-use Rattle.cred_table.specs.{Rows.ValidRows, Waiting.pending_count}
+use Rattle.cred_table.specs.Rows.{ValidRows, pending_count}
 use Rattle.ctap_message.specs.Requests.{steps_of, MAX_STEPS}
-use Rattle.token_session.specs.declared.input.{Timed.Timed, Meters.Meters}
-use Rattle.token_session.specs.{Effects.request_in, Inputs.ReceivedInput, Law.state_of}
-use Rattle.token_session.specs.History.{received, held, core, event_after}
-use Rattle.token_session.specs.Machine.{MachineState, MachineTurn, turn}
+use Rattle.token_session.specs.declared.input.Timed.{Timed}
+use Rattle.token_session.specs.declared.input.Meters.{Meters}
+use Rattle.token_session.specs.Machine.{request_in, MachineState, MachineTurn, turn}
+use Rattle.token_session.specs.Inputs.{ReceivedInput}
+use Rattle.token_session.specs.History.{state_of, received, held, core, event_after, with_input_number}
+use Rattle.token_session.specs.declared.input.Sent.{Sent}
+use Rattle.token_session.specs.declared.driver.BothFault.{BothFault}
+use Rattle.token_session.specs.declared.driver.DriveFault.{DriveFault}
+use Rattle.token_session.specs.declared.driver.DriveFault.TheVariants.{Full}
+use Rattle.token_session.specs.declared.driver.BothFault.TheVariants.{Full as BothFull}
+use Rattle.hid_packet.specs.Packet.{OUTBOX_CAPACITY}
+
+-- ---- the meters of a session: as a history defines them, and as each input changes them
 
 -- The messages of all requests in a history, newest first.
 unfoldable pub requests : Start → List ReceivedInput → List (List ℕ)
@@ -96,3 +106,61 @@ IsStateAfter s start h = s ≡ session_of start (received start h)
 pub record IsStateAfterValidStart (s : SessionState) (start : Start) (h : List Timed) : Type 0 where
   pub lawful : ValidRows start.capacity start.rows
   pub stands : IsStateAfter s start h
+
+-- Processing a list of inputs in a session, and collecting the packets that are sent, each with the number of its
+-- input.
+
+-- A packet that was sent, with the number of its input.
+abbrev pub numbered_packet : Sent → ℕ × List ℕ
+numbered_packet s = (s.input, (s.packet).0)
+
+-- The packet without the number of its input.
+abbrev pub packet_of : Sent → List ℕ
+packet_of s = (s.packet).0
+
+-- The session after the inputs of a list.
+abbrev pub state_after_inputs : SessionState → List Timed → SessionState
+state_after_inputs s [] = s
+state_after_inputs s (x ∷ xs) = state_after_inputs (stepped s x) xs
+
+-- The packets that are sent for a list of inputs, each with the number of its input. The first input has the number
+-- `n`.
+abbrev pub packets_of_inputs : ℕ → SessionState → List Timed → List (ℕ × List ℕ)
+packets_of_inputs n s [] = []
+packets_of_inputs n s (x ∷ xs) = with_input_number n (input_packets_of s x) ++ packets_of_inputs (n + 1) (stepped s x) xs
+
+-- The number of an error of driving one session, as programs print it.
+abbrev pub drive_number : DriveFault → ℕ
+drive_number (Full done) = 1
+
+-- The number of an error of driving two sessions, as programs print it.
+abbrev pub drive_both_number : BothFault → ℕ
+drive_both_number (BothFull first second) = 1
+
+-- How many of the `n` inputs were processed.
+abbrev pub inputs_done : {A : Type 0} → ℕ → Result A DriveFault → ℕ
+inputs_done n (Ok x) = n
+inputs_done n (Err (Full done)) = done
+
+-- How many of the `n` inputs were processed in the first run.
+abbrev pub first_inputs_done : {A : Type 0} → ℕ → Result A BothFault → ℕ
+first_inputs_done n (Ok x) = n
+first_inputs_done n (Err (BothFull first second)) = first
+
+-- How many of the `n` inputs were processed in the second run.
+abbrev pub second_inputs_done : {A : Type 0} → ℕ → Result A BothFault → ℕ
+second_inputs_done n (Ok x) = n
+second_inputs_done n (Err (BothFull first second)) = second
+
+-- Before each of the first `done` inputs, the list had capacity for 130 more packets.
+abbrev pub HadCapacity : ℕ → List (ℕ × List ℕ) → SessionState → List Timed → ℕ → Type 0
+HadCapacity places old s xs done = (j : ℕ) → j < done → length
+    (old ++ packets_of_inputs 0 s (take j xs)) + OUTBOX_CAPACITY ≤ places
+
+-- The first `done` inputs were processed: the session and the list of packets are exactly those after these inputs, and
+-- before each of them the list had capacity for 130 more packets.
+pub record IsDriven (places : ℕ) (old new : SessionState) (before after : List (ℕ × List ℕ)) (inputs : List Timed)
+    (done : ℕ) : Type 0 where
+  pub state : new ≡ state_after_inputs old (take done inputs)
+  pub packets : after ≡ before ++ packets_of_inputs 0 old (take done inputs)
+  pub capacity : HadCapacity places before old inputs done

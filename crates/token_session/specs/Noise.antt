@@ -11,8 +11,8 @@ use Rattle.authn_core.specs.Turn.{Start, CoreState, core_answer, working_channel
 use Rattle.authn_core.specs.Views.{wants_presence, wants_key, wants_signature}
 use Rattle.token_session.specs.declared.input.{Input.Input, Timed.Timed}
 use Rattle.token_session.specs.declared.input.Input.TheVariants.{Packet, Tick, Presence, Key, Signature}
-use Rattle.token_session.specs.{Machine.MachineState, Machine.time_passed, Inputs.ReceivedInput, Inputs.channels_allocated, Law.with_input_number}
-use Rattle.token_session.specs.Messages.{open_at, to_open}
+use Rattle.token_session.specs.{Machine.MachineState, Machine.time_passed, Inputs.ReceivedInput, Inputs.channels_allocated, History.with_input_number}
+use Rattle.token_session.specs.Inputs.{open_at, to_open}
 use Rattle.token_session.specs.History.{core, received_after, received, last_keepalive, sent_at, time_packets}
 
 -- Whether an input is noise, given the allocated channels, the open message and the authenticator. For a packet, the

@@ -2,14 +2,14 @@
 ghost use Rattle.std.specs.Prelude.{◌≡◌, ◌+◌, ◌≤◌, ◌++◌, Some, length, option_map, if◌then◌else◌};
 ghost use Rattle.hid_assemble.specs.Assembly.{still_open};
 ghost use Rattle.authn_core.specs.Views.{to_answer, to_event, to_work};
-ghost use Rattle.token_session.specs.Replies.{answer_packets, init_response, status_of};
+ghost use Rattle.token_session.specs.Machine.{answer_packets, init_response, status_of};
 ghost use Rattle.token_session.specs.Machine.{response_sends_keepalive, event_sends_keepalive};
 ghost use Rattle.token_session.specs.Meters.{AreBounded, counted};
 ghost use Rattle.token_session.specs.Noise.{is_noise_among};
-ghost use Rattle.token_session.specs.Effects.{request_in};
-ghost use Rattle.token_session.specs.Causes.{event_cause};
-ghost use Rattle.token_session.specs.Events.{event_core, event_packets};
-ghost use Rattle.hid_packet.specs.Limits.{OUTBOX_CAPACITY};
+ghost use Rattle.token_session.specs.Machine.{request_in};
+ghost use Rattle.token_session.specs.History.{event_cause};
+ghost use Rattle.token_session.specs.Machine.{event_core, event_packets};
+ghost use Rattle.hid_packet.specs.Packet.{OUTBOX_CAPACITY};
 
 use crate::cause::{Cause, cause_of};
 use crate::input::{Input, Meters};
@@ -31,7 +31,7 @@ pub const KEEPALIVE_PERIOD: u64 = 100;
 const DEVICE_INFO: [u8; 5] = [2, 1, 0, 0, 0x0c];
 
 /// Sends the response to INIT on the channel `on`. The response contains the channel ID `channel`.
-#[tactic(auto, using(hid_packet::proofs::Carrying::few_written), unfolding(crate::specs::Replies::init_response))]
+#[tactic(auto, using(hid_packet::proofs::MessagePackets::few_written), unfolding(crate::specs::Machine::init_response))]
 pub(crate) fn send_init_response(outbox: &mut Outbox, on: u32, channel: u32, nonce: &[u8; 8])
     requires { length outbox.old ≤ 1 }
     ensures { outbox.new ≡ outbox.old ++ init_response on channel nonce.now }
@@ -104,7 +104,7 @@ impl<const C: usize> AuthenticatorState<C> {
     /// Sends the packets of the answer to an event on a channel. `before` is the request that was pending before the
     /// event.
     #[inline(always)]
-    #[tactic(auto, unfolding(crate::specs::Replies::answer_packets, crate::specs::Machine::response_sends_keepalive))]
+    #[tactic(auto, unfolding(crate::specs::Machine::answer_packets, crate::specs::Machine::response_sends_keepalive))]
     fn send(
         &mut self,
         now: u64,

@@ -1,7 +1,7 @@
 //! Why an input was refused.
 ghost use Rattle.std.specs.Prelude.{◌≡◌};
 ghost use Rattle.authn_core.specs.Views.{to_event, refusal_of};
-ghost use Rattle.token_session.specs.Causes.{command_cause};
+ghost use Rattle.token_session.specs.History.{command_cause};
 
 use authn_core::{Event, Refusal, Turn};
 use ctap_message::{RequestFault, request_fault};

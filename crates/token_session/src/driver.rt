@@ -4,14 +4,14 @@ ghost use Rattle.arrayvec.specs.ArrayVec.{array_vec_len};
 ghost use Rattle.authn_core.specs.Turn.{Start};
 ghost use Rattle.token_session.specs.declared.input.Timed.{Timed as OneInput};
 ghost use Rattle.token_session.specs.Carried.{ArriveWithFullPackets, HasFullPacket};
-ghost use Rattle.token_session.specs.Drive.{numbered_packet, packet_of, drive_both_number, drive_number, inputs_done, first_inputs_done, second_inputs_done, HadCapacity, IsDriven};
-ghost use Rattle.token_session.specs.Headline.{IsAnswered, IsBounded, start_of};
+ghost use Rattle.token_session.specs.Meters.{numbered_packet, packet_of, drive_both_number, drive_number, inputs_done, first_inputs_done, second_inputs_done, HadCapacity, IsDriven};
+ghost use Rattle.token_session.specs.Answered.{IsAnswered, HasInternalProperties, start_of};
 ghost use Rattle.token_session.specs.Answered.{packets_sent_from};
-ghost use Rattle.token_session.specs.Law.{with_input_number, append_inputs, sent_from};
+ghost use Rattle.token_session.specs.History.{with_input_number, append_inputs, sent_from};
 ghost use Rattle.token_session.specs.History.{received};
 ghost use Rattle.token_session.specs.Meters.{IsStateAfterValidStart, IsStateAfter, meters_of, session_of};
 ghost use Rattle.token_session.specs.Noise.{HasTicksForNoise, quiet_from};
-ghost use Rattle.hid_packet.specs.Limits.{OUTBOX_CAPACITY};
+ghost use Rattle.hid_packet.specs.Packet.{OUTBOX_CAPACITY};
 
 use crate::input::{Input, Meters, Sent, Timed};
 use crate::laws::{answers_follow_history, every_history_is_answered};
@@ -145,7 +145,7 @@ pub fn drive_new<const C: usize, const N: usize>(
 ) -> Result<Meters, DriveFault>
     ensures answered { IsAnswered (start_of config.aaguid start C (⟦<Store<C> as Table<C>>⟧.rows rows.entry))
         (reverse (take (inputs_done (length inputs.now) result) inputs.now)) (map packet_of sent.new.items) }
-    ensures bounded { IsBounded (start_of config.aaguid start C (⟦<Store<C> as Table<C>>⟧.rows rows.entry))
+    ensures bounded { HasInternalProperties (start_of config.aaguid start C (⟦<Store<C> as Table<C>>⟧.rows rows.entry))
         (reverse (take (inputs_done (length inputs.now) result) inputs.now)) }
     // Each packet has the number of its input.
     ensures numbers { map numbered_packet sent.new.items

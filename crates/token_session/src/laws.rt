@@ -8,32 +8,32 @@ ghost use Rattle.authn_core.specs.State.{Request};
 ghost use Rattle.cred_table.specs.Rows.{ValidRows};
 ghost use Rattle.authn_core.specs.Turn.{CoreState, Start, working_channel, first_state, waiting};
 ghost use Rattle.authn_core.specs.Marks.{changes, rows_after_changes, signs_by, signed_assertions, all_differ};
-ghost use Rattle.authn_core.specs.Rising.{counters_increase, IsNewest};
+ghost use Rattle.authn_core.specs.Marks.{counters_increase, IsNewest};
 ghost use Rattle.authn_core.specs.Signed.{IsNeeded};
 ghost use Rattle.authn_core.specs.Views.{needs, sign};
-ghost use Rattle.ctap_message.specs.Answers.{info_answer};
-ghost use Rattle.hid_packet.specs.Commands.{CBOR, PING};
+ghost use Rattle.ctap_message.specs.Responses.{info_answer};
+ghost use Rattle.hid_packet.specs.Packet.{CBOR, PING};
 ghost use Rattle.hid_packet.specs.Message.{message_packets};
 ghost use Rattle.hid_packet.specs.declared.packet.Packet.{Packet as AnyPacket};
 ghost use Rattle.token_session.specs.declared.input.Input.TheVariants.{Packet as PacketCame, Signature as SignatureCame};
-ghost use Rattle.hid_packet.specs.Carries.{CarriesMessage};
+ghost use Rattle.hid_packet.specs.Message.{CarriesMessage};
 ghost use Rattle.hid_assemble.specs.Assembly.{Assembly, Message};
 ghost use Rattle.token_session.specs.declared.input.Input.{Input};
-ghost use Rattle.token_session.specs.Arriving.{MessageArrives};
+ghost use Rattle.token_session.specs.Carried.{MessageArrives};
 ghost use Rattle.token_session.specs.Carried.{ArriveWithFullPackets, completed_packets_at};
 ghost use Rattle.token_session.specs.Inputs.{latest_time, channels_allocated};
-ghost use Rattle.token_session.specs.Messages.{message_completed_at, open_at};
+ghost use Rattle.token_session.specs.Inputs.{message_completed_at, open_at};
 ghost use Rattle.token_session.specs.History.{received_after, received, held, core, sent, service_packets, last_keepalive};
 ghost use Rattle.token_session.specs.Machine.{MachineState, machine, turn, time_passed};
-ghost use Rattle.token_session.specs.Events.{event_packets};
-ghost use Rattle.token_session.specs.Law.{all_open, IsMachineAfter, sent_now, append_inputs, sent_from, run_state, run_sent, turns_send, has_keepalive};
-ghost use Rattle.token_session.specs.Credentials.{steps};
-ghost use Rattle.token_session.specs.Signing.{latest_requests, IsAnsweredBy};
+ghost use Rattle.token_session.specs.Machine.{event_packets};
+ghost use Rattle.token_session.specs.History.{all_open, IsMachineAfter, sent_now, append_inputs, sent_from, run_state, run_sent, turns_send, has_keepalive};
+ghost use Rattle.token_session.specs.Answered.{steps};
+ghost use Rattle.token_session.specs.Answered.{latest_requests, IsAnsweredBy};
 ghost use Rattle.token_session.specs.Answered.{AgreesWithExchanges, exchanges_of, pending_work_of};
-ghost use Rattle.token_session.specs.Headline.{IsAnswered, IsBounded};
+ghost use Rattle.token_session.specs.Answered.{IsAnswered, HasInternalProperties};
 ghost use Rattle.token_session.specs.Meters.{SessionState, meters_of, session_of, stepped};
 ghost use Rattle.token_session.specs.Noise.{HasTicksForNoise, is_noise_among, is_ignored_or_rejected, is_noise_at, is_noise_after, quiet_from, quiet_sent, tick_at};
-ghost use Rattle.hid_packet.specs.Limits.{MAX_STORED_LEN, OUTBOX_CAPACITY};
+ghost use Rattle.hid_packet.specs.Packet.{MAX_STORED_LEN, OUTBOX_CAPACITY};
 
 use authn_core::laws::{
     answers_follow_history as answering_law, rows_follow_history,
@@ -87,6 +87,7 @@ pub fn messages_of_one_packet_finish()
 /// States that the packets of a PING or CBOR message on an allocated channel, in order and less than 500 ms apart,
 /// complete the message with exactly its bytes, whatever packets other hosts send meanwhile. At the first packet, no
 /// message may be incomplete and no request pending.
+#[tactic(auto, using(crate::proofs::Carrying::several_packets_finish))]
 pub fn messages_of_several_packets_finish()
     ensures { (start : Start) (h between : List OneInput) (x y : OneInput) (p q : AnyPacket) (cid cmd : ℕ)
         (bytes : List ℕ) → x.input ≡ PacketCame p → y.input ≡ PacketCame q
@@ -98,6 +99,7 @@ pub fn messages_of_several_packets_finish()
 /// States that a complete CBOR message is a request. The authenticator's response is sent on its channel, and no other
 /// packet is sent for the request, except those that are sent because time passed. Therefore the response to
 /// authenticatorGetInfo is its map with the AAGUID of the start, whatever happened before.
+#[tactic(auto, using(crate::proofs::Answered::requests_answered, crate::proofs::Answered::info_is_answered))]
 pub fn requests_are_answered()
     ensures request { (start : Start) (h : List OneInput) (x : OneInput) (m : Message)
         → message_completed_at (received_after start h x) (received start h) ≡ Some m → m.cmd ≡ CBOR
@@ -120,12 +122,14 @@ pub fn meters_are_bounded()
 }
 
 /// States that at most 130 packets are sent for one input, in any state.
+#[tactic(auto, using(crate::proofs::Carrying::turn_few))]
 pub fn one_input_sends_few_packets()
     ensures { (s : MachineState) (x : OneInput) → length (turn s x).packets ≤ OUTBOX_CAPACITY }
 {}
 
 /// States that the bytes of a completed message are exactly the data of its initialization packet and of the following
 /// packets on its channel, up to the packet that completes the message.
+#[tactic(auto, using(crate::proofs::Carrying::finished_is_carried))]
 pub fn finished_messages_were_received()
     ensures { (start : Start) (h : List OneInput) (x : OneInput) (m : Message) → ArriveWithFullPackets (x ∷ h)
         → message_completed_at (received_after start h x) (received start h) ≡ Some m
@@ -135,6 +139,7 @@ pub fn finished_messages_were_received()
 /// States that an ignored input has the same effect as a tick: the same state and meters follow, and for a tick only
 /// those packets are sent that are due because time passed. An input is ignored after a history if it is ignored in the
 /// state of the history.
+#[tactic(auto, using(crate::proofs::Metering::noise_steps, crate::proofs::Metering::noise_turned_away, crate::proofs::Metering::tick_sends, crate::proofs::Metering::noise_is_named))]
 pub fn noise_is_a_tick()
     ensures step { (s : SessionState) (x : OneInput) → is_noise_at s.machine x ≡ true
         → stepped s x ≡ stepped s (tick_at x.at) }
@@ -150,6 +155,7 @@ pub fn noise_is_a_tick()
 /// States that a history in which ticks replace ignored inputs leads to the same state: channels, incomplete message,
 /// authenticator, times and meters. The same packets are sent, except the responses to the replaced inputs. The same is
 /// true for further inputs after the two histories.
+#[tactic(auto, using(crate::proofs::Metering::quiet_alike, crate::proofs::Metering::quiet_sends, crate::proofs::Metering::quiet_runs))]
 pub fn ticks_can_replace_noise()
     ensures session { (start : Start) (h g : List OneInput) → HasTicksForNoise start h g
         → session_of start (received start h) ≡ session_of start (received start g) }
@@ -215,7 +221,7 @@ pub fn every_history_is_answered()
     ensures answered { (start : Start) (h : List OneInput) → ValidRows start.capacity start.rows
         → IsAnswered start h (turns_send start h) }
     ensures bounded { (start : Start) (h : List OneInput) → ValidRows start.capacity start.rows → ArriveWithFullPackets h
-        → IsBounded start h }
+        → HasInternalProperties start h }
 {
     rows_follow_history();
     steps_are_bounded();

@@ -1,22 +1,22 @@
 ghost use Rattle.std.specs.Prelude.{◌≡◌, ◌≤◌, [], ◌∷◌, List, Ok, length, MatchResult, OnOk};
 ghost use Rattle.hid_assemble.specs.Assembly.{stored_len};
-ghost use Rattle.authn_core.specs.Needs.{IsValidNeed};
+ghost use Rattle.authn_core.specs.Views.{IsValidNeed};
 ghost use Rattle.authn_core.specs.Views.{first_contents, needs, to_needed};
 ghost use Rattle.cred_table.specs.declared.row.Row.{Row as AnyRow};
 ghost use Rattle.cred_table.specs.Snapshots.{Loads, Refuses};
-ghost use Rattle.cred_table.specs.Waiting.{pending_count};
+ghost use Rattle.cred_table.specs.Rows.{pending_count};
 ghost use Rattle.authn_core.specs.Turn.{Start};
 ghost use Rattle.token_session.specs.declared.input.Input.TheVariants as inputs;
 ghost use Rattle.token_session.specs.declared.input.Timed.{Timed as OneInput};
 ghost use Rattle.token_session.specs.History.{received_after, received, held};
 ghost use Rattle.token_session.specs.Answered.{packets_sent_now};
-ghost use Rattle.token_session.specs.Law.{sent_now};
-ghost use Rattle.token_session.specs.Effects.{request_in};
+ghost use Rattle.token_session.specs.History.{sent_now};
+ghost use Rattle.token_session.specs.Machine.{request_in};
 ghost use Rattle.token_session.specs.Meters.{AreBounded, IsStateAfterValidStart, SessionState, IsStateAfter, counted, stepped, input_packets_of, session_of};
-ghost use Rattle.token_session.specs.Causes.{time_cause, input_cause, causes_of, causes_after};
+ghost use Rattle.token_session.specs.History.{time_cause, input_cause, causes_of, causes_after};
 ghost use Rattle.token_session.specs.Machine.{time_passed, processed_input};
 ghost use Rattle.token_session.specs.Noise.{is_noise_at, is_noise_after};
-ghost use Rattle.hid_packet.specs.Limits.{MAX_STORED_LEN, OUTBOX_CAPACITY};
+ghost use Rattle.hid_packet.specs.Packet.{MAX_STORED_LEN, OUTBOX_CAPACITY};
 
 use crate::authenticator_state::{
     AuthenticatorState, KEEPALIVE_PERIOD, is_noise, send_init_response,
@@ -117,7 +117,7 @@ impl<const C: usize> Session<C> {
 
     /// Returns a session without credentials that starts at time `start`, in milliseconds, for an authenticator with
     /// this AAGUID. No channel is allocated. The capacity `C` must be from 1 to 256 credentials. The session is created
-    /// in place, because moving a session copies its 31 kB.
+    /// in place, because moving a session copies it (31 kB with 64 credentials).
     #[inline(never)]
     pub fn bare(aaguid: [u8; 16], start: u64) -> Self
         requires some { 1 ≤ C }
@@ -169,8 +169,8 @@ impl<const C: usize> Session<C> {
             → IsStateAfter self.new start (record { at = at; input = input } ∷ h) }
         ensures sent { (start : Start) (h : List OneInput) → IsStateAfter self.old start h
             → outbox.new ≡ sent_now start h (record { at = at; input = input }) }
-        // If `start` is valid, the packets are exactly those that `packets_sent_now` gives. Its definition uses only the
-        // start and the inputs, not the state of an authenticator.
+        // If `start` is valid, the packets are exactly those that `packets_sent_now` gives. Its definition uses only
+        // the start and the inputs, not the state of an authenticator.
         ensures follows { (start : Start) (h : List OneInput) → IsStateAfterValidStart self.old start h
             → IsStateAfterValidStart self.new start (record { at = at; input = input } ∷ h) }
         ensures told { (start : Start) (h : List OneInput) → IsStateAfterValidStart self.old start h
@@ -200,10 +200,11 @@ impl<const C: usize> Session<C> {
     }
 
     /// Returns whether this input at time `at` would be noise: after time has passed to `at`, the input would change
-    /// nothing. Noise is: a CANCEL without a pending request; a packet on a channel that isn't allocated, except INIT
-    /// on the broadcast channel; an initialization packet, except INIT and CANCEL, while another channel has an open
-    /// message or any channel has a pending request; a continuation packet without an open message on its channel; and
-    /// a reply of the caller that isn't needed. A tick is never noise. The call doesn't change the session.
+    /// nothing. Noise is: a CANCEL without a pending request on its channel; a packet on a channel that isn't
+    /// allocated, except INIT on the broadcast channel; an initialization packet, except INIT and CANCEL, while another
+    /// channel has an open message or any channel has a pending request; a continuation packet without an open message
+    /// on its channel; and a reply of the caller that isn't needed. A tick is never noise. The call doesn't change the
+    /// session.
     pub fn noise(&self, at: u64, input: &Input) -> bool
         ensures state { result ≡ is_noise_at self.now.machine (record { at = at; input = input.now }) }
         // For each history that leads to the session's state, the input is noise after the history.
@@ -266,7 +267,7 @@ impl<const C: usize> Session<C> {
     }
 
     /// Advances the time to `at`. A message may time out, or a KEEPALIVE may be sent.
-    #[tactic(auto, using(hid_packet::proofs::Carrying::few_written))]
+    #[tactic(auto, using(hid_packet::proofs::MessagePackets::few_written))]
     fn pass_time(&mut self, at: u64, outbox: &mut Outbox) -> Option<Refusal>
         requires sent { outbox.old ≡ [] }
         requires later { self.old.machine.now ≤ at }
@@ -319,7 +320,7 @@ impl<const C: usize> Session<C> {
     }
 
     /// Processes a packet, after the packets that are sent because time passed.
-    #[tactic(auto, using(hid_packet::proofs::Carrying::few_written))]
+    #[tactic(auto, using(hid_packet::proofs::MessagePackets::few_written))]
     fn serve_packet(&mut self, packet: &Packet, outbox: &mut Outbox) -> Option<Cause>
         requires { length outbox.old ≤ 1 }
         ensures state { self.new.machine ≡ (processed_input self.old.machine outbox.old (inputs.Packet packet.now)).state }

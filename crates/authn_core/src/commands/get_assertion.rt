@@ -4,14 +4,14 @@ ghost use Rattle.std.specs.Prelude.{◌≡◌, ◌<◌, ◌≤◌, ◌-◌, ◌^
 ghost use Rattle.std.specs.List.{find};
 ghost use Rattle.std.specs.Option.{ForSome, option_copied};
 ghost use Rattle.cred_table.specs.Rows.{has_id, ids, counter_of};
-ghost use Rattle.ctap_message.specs.Descriptors.{ids_of};
+ghost use Rattle.ctap_message.specs.Members.{ids_of};
 ghost use Rattle.ctap_message.specs.Members.{has_entries};
 ghost use Rattle.ctap_message.specs.DescriptorWalk.{list_of, left_of};
 ghost use Rattle.sha2.specs.Sha256.{sha256};
 ghost use Rattle.authn_core.specs.State.{AwaitAssertSignature, await_signature};
-ghost use Rattle.authn_core.specs.GetAssertion as get;
+ghost use Rattle.authn_core.specs.Turn as get;
 ghost use Rattle.authn_core.specs.Views.{TakesTurn, TakesWork, to_assert_state};
-ghost use Rattle.authn_core.specs.Ready.{IsPendingAlone, SignsItsResponse};
+ghost use Rattle.authn_core.specs.Turn.{IsPendingAlone, SignsItsResponse};
 
 use crate::authenticator::{Core, Turn};
 use crate::refusal::{Refusal, presence_refusal};
@@ -176,7 +176,7 @@ impl<T: Table<C>, const C: usize> Core<T, C> {
     }
 
     /// Responds with the signature and the signed authenticator data, and restarts the time limit for the next
-    /// assertion.
+    /// assertion. If the caller refuses to sign, responds with an error.
     pub(crate) fn on_assert_signature(
         &mut self,
         a: AssertState,

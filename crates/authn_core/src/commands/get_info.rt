@@ -1,7 +1,7 @@
 //! authenticatorGetInfo (CTAP 2.1, section 6.4).
 
 ghost use Rattle.std.specs.Prelude.{None};
-ghost use Rattle.ctap_message.specs.Answers.{info_answer};
+ghost use Rattle.ctap_message.specs.Responses.{info_answer};
 ghost use Rattle.authn_core.specs.State.{respond};
 ghost use Rattle.authn_core.specs.Views.{TakesTurn};
 

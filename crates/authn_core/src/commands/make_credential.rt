@@ -3,11 +3,11 @@
 ghost use Rattle.std.specs.Prelude.{◌≡◌, ◌≤◌, true, false, length, is_some};
 ghost use Rattle.std.specs.List.{find};
 ghost use Rattle.cred_table.specs.Rows.{has_id, rows_with};
-ghost use Rattle.ctap_message.specs.Descriptors.{ids_of};
+ghost use Rattle.ctap_message.specs.Members.{ids_of};
 ghost use Rattle.ctap_message.specs.DescriptorWalk.{left_of};
-ghost use Rattle.authn_core.specs.MakeCredential as make;
+ghost use Rattle.authn_core.specs.Turn as make;
 ghost use Rattle.authn_core.specs.State.{AwaitMakeSignature};
-ghost use Rattle.authn_core.specs.Ready.{SignsItsResponse};
+ghost use Rattle.authn_core.specs.Turn.{SignsItsResponse};
 ghost use Rattle.authn_core.specs.Views.{TakesTurn, TakesWork, to_make_state};
 
 use crate::authenticator::{Core, Turn};
@@ -38,7 +38,7 @@ fn has_listed_credential<T: Table<C>, const C: usize>(
     false
 }
 
-/// Stores a new credential. A discoverable credential for the same account is replaced.
+/// Stores a new credential. If it is discoverable, it replaces a discoverable credential for the same account.
 fn store<T: Table<C>, const C: usize>(table: &mut T, making: MakeState, key: NewKey)
     requires capacity { make.has_capacity C (to_make_state making) (T.rows table.old) ≡ true }
     requires fresh { is_some (find (has_id key.id) (T.rows table.old)) ≡ false }
@@ -146,7 +146,8 @@ impl<T: Table<C>, const C: usize> Core<T, C> {
         Turn::Waits(self.wait(cid, Task::AwaitMakeSignature(making, *key, signed)))
     }
 
-    /// Stores the credential when it is signed, and responds with the signed authenticator data.
+    /// Stores the credential when it is signed, and responds with the signed authenticator data. If the caller refuses
+    /// to sign, responds with an error.
     pub(crate) fn on_make_signature(
         &mut self,
         making: MakeState,

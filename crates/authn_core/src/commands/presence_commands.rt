@@ -2,7 +2,7 @@
 
 ghost use Rattle.std.specs.Prelude.{[], ◌∷◌, None};
 ghost use Rattle.authn_core.specs.State.{AwaitSelectionPresence, respond, await_reply};
-ghost use Rattle.authn_core.specs.Asking.{reset_turn, presence_turn};
+ghost use Rattle.authn_core.specs.Turn.{reset_turn, presence_turn};
 ghost use Rattle.authn_core.specs.Views.{TakesTurn, TakesWork};
 
 use crate::authenticator::{Core, Turn};

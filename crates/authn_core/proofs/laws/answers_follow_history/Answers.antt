@@ -1,4 +1,4 @@
-use Rattle.authn_core.specs.{Answers.exchanges, Exchanges.pending_request, Turn.first_state, Marks.Orderly, Marks.core_at}
+use Rattle.authn_core.specs.{Answers.exchanges, Answers.pending_request, Turn.first_state, Marks.Orderly, Marks.core_at}
 use Rattle.authn_core.proofs.Kept.{told_at, turn_at, waits_told}
 use Rattle.authn_core.proofs.laws.answers_follow_history.Goals as goal
 

@@ -1,5 +1,5 @@
 use Rattle.std.proofs.Common.{[], sym, ◌∙◌}
-use Rattle.authn_core.proofs.{Histories.none_later, Histories.rows_left, Readiness.core_sound}
+use Rattle.authn_core.proofs.{Histories.none_later, Histories.rows_left, Histories.core_sound}
 use Rattle.authn_core.proofs.laws.rows_follow_history.Goals as goal
 
 pub returns : goal.returns

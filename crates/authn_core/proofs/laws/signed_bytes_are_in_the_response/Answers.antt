@@ -1,6 +1,6 @@
 use Rattle.std.proofs.Common.{arith}
 use Rattle.authn_core.specs.{Marks.core_at, Signed.requests_of, Turn.first_state, Turn.turn}
-use Rattle.authn_core.proofs.{Readiness.core_sound, Signed.turn_signs, Signed.signs_at, Signed.work_answers}
+use Rattle.authn_core.proofs.{Histories.core_sound, Histories.turn_signs, Histories.signs_at, Histories.work_answers}
 use Rattle.authn_core.proofs.laws.signed_bytes_are_in_the_response.Goals as goal
 
 pub returns : goal.returns

@@ -1,6 +1,6 @@
 use Rattle.authn_core.specs.Marks.{Orderly, core_at, changes, signed_assertions}
 use Rattle.authn_core.proofs.Histories.{history_tells, rise_differ, told, turn_adds}
-use Rattle.authn_core.proofs.Readiness.{core_sound}
+use Rattle.authn_core.proofs.Histories.{core_sound}
 use Rattle.authn_core.proofs.laws.signed_bytes_differ.Goals as goal
 
 pub returns : goal.returns

@@ -1,4 +1,4 @@
-use Rattle.authn_core.proofs.Readiness.{turn_keeps}
+use Rattle.authn_core.proofs.Histories.{turn_keeps}
 use Rattle.authn_core.proofs.laws.turns_keep_the_invariant.Goals as goal
 
 pub returns : goal.returns

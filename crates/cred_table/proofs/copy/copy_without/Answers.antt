@@ -1,5 +1,5 @@
 use Rattle.std.proofs.Common.{arith}
-use Rattle.cred_table.proofs.Copied.{may_be_put, one_copied, one_left_out}
+use Rattle.cred_table.proofs.Stored.{may_be_put, one_copied, one_left_out}
 use Rattle.cred_table.proofs.copy.copy_without.Goals as goal
 
 pub put-requires : goal.put-requires

@@ -1,4 +1,4 @@
-use Rattle.cred_table.proofs.Copied.{Copied}
+use Rattle.cred_table.proofs.Stored.{Copied}
 use Rattle.cred_table.proofs.copy.copy_without.Given as goal
 
 abbrev pub invariant-loop-row : goal.invariant-loop-row

@@ -2,7 +2,7 @@ use Rattle.std.proofs.lemmas.Grind.{common_steps}
 use Rattle.std.proofs.Common.{arith, subst, sym}
 use Rattle.std.specs.{Prelude.◌≡◌, Prelude.None, Prelude.IsTrue, List.find}
 use Rattle.cred_table.specs.{declared.row.Row.Row, Rows.has_id, Rows.is_user}
-use Rattle.cred_table.proofs.{RowTrees.no_clash, Copied.free_before}
+use Rattle.cred_table.proofs.{Stored.no_clash, Stored.free_before}
 use Rattle.cred_table.proofs.load_snapshot.load_rows.Goals as goal
 
 pub put-requires : goal.put-requires

@@ -1,5 +1,5 @@
 use Rattle.std.proofs.Common.{arith, sym, ◌∙◌}
-use Rattle.cred_table.proofs.RowTrees.{no_clash}
+use Rattle.cred_table.proofs.Stored.{no_clash}
 use Rattle.cred_table.proofs.load_snapshot.put_new.Goals as goal
 
 pub put-requires-clause-fresh : goal.put-requires-clause-fresh

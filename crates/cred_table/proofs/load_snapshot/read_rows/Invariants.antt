@@ -1,4 +1,4 @@
-use Rattle.cred_table.specs.Parsing.{ReadsFirstRows}
+use Rattle.cred_table.specs.Snapshots.{ReadsFirstRows}
 use Rattle.cred_table.proofs.load_snapshot.read_rows.Given as goal
 
 abbrev pub invariant-loop-place : goal.invariant-loop-place

@@ -1,6 +1,6 @@
 use Rattle.std.proofs.Common.{arith, sym, ap, ◌∙◌}
 use Rattle.ctap_cbor.specs.Reading.{rest_of}
-use Rattle.cred_table.proofs.Contents.{no_heads, too_many, rows_load}
+use Rattle.cred_table.proofs.OneSnapshot.{no_heads, too_many, rows_load}
 use Rattle.cred_table.proofs.load_snapshot.read_snapshot.Goals as goal
 
 pub returns-in-None : goal.returns-in-None

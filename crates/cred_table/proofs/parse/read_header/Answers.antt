@@ -1,4 +1,4 @@
-use Rattle.cred_table.proofs.Entries.{map_then, no_map, version_then, no_version, no_count, heads_read}
+use Rattle.cred_table.proofs.Typed.{map_then, no_map, version_then, no_version, no_count, heads_read}
 use Rattle.cred_table.proofs.parse.read_header.Goals as goal
 
 pub returns-in_err-read_map : goal.returns-in_err-read_map

@@ -1,6 +1,6 @@
-use Rattle.cred_table.proofs.Entries.{head_then, no_head, row_read, rp_then, no_rp, id_then, no_id, x_then, no_x}
-use Rattle.cred_table.proofs.Entries.{y_then, no_y, user_then, no_user, flag_then, no_flag, counter_then, no_counter}
-use Rattle.cred_table.proofs.Entries.{no_name}
+use Rattle.cred_table.proofs.Typed.{head_then, no_head, row_read, rp_then, no_rp, id_then, no_id, x_then, no_x}
+use Rattle.cred_table.proofs.Typed.{y_then, no_y, user_then, no_user, flag_then, no_flag, counter_then, no_counter}
+use Rattle.cred_table.proofs.Typed.{no_name}
 use Rattle.cred_table.proofs.parse.read_row.Goals as goal
 
 pub returns-in_err-read_map : goal.returns-in_err-read_map

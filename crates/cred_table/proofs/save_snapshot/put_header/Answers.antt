@@ -1,5 +1,5 @@
 use Rattle.std.proofs.Common.{arith}
-use Rattle.ctap_cbor.specs.Composing.{then}
+use Rattle.ctap_cbor.specs.Writing.{then}
 use Rattle.cred_table.proofs.SavedRows.{exactly, at_most, head_short}
 use Rattle.cred_table.proofs.save_snapshot.put_header.Goals as goal
 

@@ -1,6 +1,6 @@
 use Rattle.std.proofs.Common.{◌+◌, ◌-◌, ◌&&◌, refl, arith, ◌≡◌, subst}
-use Rattle.ctap_cbor.{specs.Views.to_part, specs.Reading.TakesItem, specs.Collecting.AddsEntries, proofs.Skipping.array_stops}
-use Rattle.ctap_cbor.proofs.Collecting.{all_none, all_more, array_read}
+use Rattle.ctap_cbor.{specs.Views.to_part, specs.Reading.TakesItem, specs.Reading.AddsEntries, proofs.Moves.array_stops}
+use Rattle.ctap_cbor.proofs.Moves.{all_none, all_more, array_read}
 use Rattle.ctap_cbor.proofs.collect.read_array.Goals as goal
 
 pub loop-done-init : goal.loop-done-init

@@ -1,5 +1,5 @@
 use Rattle.std.proofs.Common.{◌+◌, ◌-◌}
-use Rattle.ctap_cbor.specs.Collecting.{AddsEntries}
+use Rattle.ctap_cbor.specs.Reading.{AddsEntries}
 use Rattle.ctap_cbor.proofs.collect.read_array.Given as goal
 
 abbrev pub invariant-loop-done : goal.invariant-loop-done

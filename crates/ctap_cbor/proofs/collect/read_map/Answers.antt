@@ -1,7 +1,7 @@
 use Rattle.std.proofs.Common.{◌+◌, ◌-◌, ◌&&◌, refl, arith, ◌≡◌, subst}
 use Rattle.std.{proofs.lemmas.Result.err_from_is_err_and, specs.Option.option_copied}
-use Rattle.ctap_cbor.{specs.Views.to_part, specs.Reading.TakesItem, specs.Collecting.AddsPairs, proofs.Skipping.map_stops}
-use Rattle.ctap_cbor.proofs.Collecting.{adds_none, adds_more, value_ends, map_read}
+use Rattle.ctap_cbor.{specs.Views.to_part, specs.Reading.TakesItem, specs.Reading.AddsPairs, proofs.Moves.map_stops}
+use Rattle.ctap_cbor.proofs.Moves.{adds_none, adds_more, value_ends, map_read}
 use Rattle.ctap_cbor.proofs.collect.read_map.Goals as goal
 
 pub loop-done-init : goal.loop-done-init

@@ -1,5 +1,5 @@
 use Rattle.std.{proofs.Common.◌+◌, proofs.Common.◌-◌, specs.Option.option_copied}
-use Rattle.ctap_cbor.specs.Collecting.{AddsPairs}
+use Rattle.ctap_cbor.specs.Reading.{AddsPairs}
 use Rattle.ctap_cbor.proofs.collect.read_map.Given as goal
 
 abbrev pub invariant-loop-done : goal.invariant-loop-done

@@ -1,9 +1,9 @@
 use Rattle.std.proofs.Common.{arith, ◌-◌, subst}
 use Rattle.std.{proofs.lemmas.Result.err_from_is_err_and, specs.Option.option_copied}
-use Rattle.ctap_cbor.specs.{Faults.AnItem, Faults.AKey, Views.to_part, Reading.TakesItem}
+use Rattle.ctap_cbor.specs.{Items.AnItem, Items.AKey, Views.to_part, Reading.TakesItem}
 use Rattle.ctap_cbor.specs.Values.{to_tree, to_trees, to_pairs}
-use Rattle.ctap_cbor.proofs.Skipping.{array_stops, map_stops, item_stops, key_stops, value_stops, refused_halts}
-use Rattle.ctap_cbor.proofs.Valuing.{item_more, pair_more, scalar_passes, refuses_not_memory, told, told_by}
+use Rattle.ctap_cbor.proofs.Moves.{array_stops, map_stops, item_stops, key_stops, value_stops, refused_halts}
+use Rattle.ctap_cbor.proofs.Outcomes.{item_more, pair_more, scalar_passes, refuses_not_memory, unless_memory, unless_memory_by}
 use Rattle.ctap_cbor.proofs.decode.+value.Goals as goal
 
 -- ---- an item
@@ -13,7 +13,7 @@ read_value-returns-in_err-item t c =
     let p = err_from_is_err_and c.from_residual.result c.from_residual.ensures.1 in
     let f = c.in_err-item.field-0.0 in
     let h = c.in_err-item.ensures.takes in
-    rw (p.1, p.2) (told f _ (refuses_not_memory (5 - c.args.level) AnItem c.args.cursor.now c.item.new.self f.at f.kind
+    rw (p.1, p.2) (unless_memory f _ (refuses_not_memory (5 - c.args.level) AnItem c.args.cursor.now c.item.new.self f.at f.kind
     h) (refused_halts (5 - c.args.level) c.args.cursor.now c.item.new.self f.at f.kind h))
 
 pub read_value-returns-in_err-items-in-Array : goal.read_value-returns-in_err-items-in-Array
@@ -26,7 +26,7 @@ read_value-returns-in_err-pairs-in-Map t c =
     let p = err_from_is_err_and c.from_residual-in_err-pairs-in-Map.result c.from_residual-in_err-pairs-in-Map.ensures.1
     in
     let f = c.in_err-pairs-in-Map.field-0.0 in
-    rw (p.1, p.2) (told_by f _ _ (map_stops c.args.level c.in-Map.count c.args.cursor.now c.item.new.self
+    rw (p.1, p.2) (unless_memory_by f _ _ (map_stops c.args.level c.in-Map.count c.args.cursor.now c.item.new.self
     c.read_pairs.new.cursor f.at f.kind takes) c.in_err-pairs-in-Map.ensures)
 
 pub read_value-returns-in_ok-value-in_default : goal.read_value-returns-in_ok-value-in_default
@@ -46,7 +46,7 @@ pub read_items-returns-in_err-item : goal.read_items-returns-in_err-item
 read_items-returns-in_err-item t c =
     let p = err_from_is_err_and c.from_residual.result c.from_residual.ensures.1 in
     let f = c.in_err-item.field-0.0 in
-    rw (p.1, p.2) (told_by f _ _ (item_stops (5 - c.args.level) c.args.count c.loop-done.done
+    rw (p.1, p.2) (unless_memory_by f _ _ (item_stops (5 - c.args.level) c.args.count c.loop-done.done
     (to_trees c.loop-done.items.items) c.args.cursor.now c.loop-done.cursor c.read_value.new.cursor f.at f.kind
     c.loop-done-test.true c.loop-done.invariant) c.in_err-item.ensures)
 
@@ -65,7 +65,7 @@ read_pairs-returns-in_err-key t c =
     let f = c.in_err-key.field-0.0 in
     let last = option_copied c.loop-done.previous in
     let h = c.in_err-key.ensures.gives in
-    rw (p.1, p.2) (told f _ (refuses_not_memory 0 (AKey last) c.loop-done.cursor c.key.new.self f.at f.kind h)
+    rw (p.1, p.2) (unless_memory f _ (refuses_not_memory 0 (AKey last) c.loop-done.cursor c.key.new.self f.at f.kind h)
     (key_stops (5 - c.args.level) c.args.count c.loop-done.done (to_pairs c.loop-done.pairs.items) last
     c.args.cursor.now c.loop-done.cursor c.key.new.self f.at f.kind c.loop-done-test.true c.loop-done.invariant h))
 
@@ -73,7 +73,7 @@ pub read_pairs-returns-in_err-value : goal.read_pairs-returns-in_err-value
 read_pairs-returns-in_err-value t c =
     let p = err_from_is_err_and c.from_residual-in_err-value.result c.from_residual-in_err-value.ensures.1 in
     let f = c.in_err-value.field-0.0 in
-    rw (p.1, p.2) (told_by f _ _ (value_stops (5 - c.args.level) c.args.count c.loop-done.done
+    rw (p.1, p.2) (unless_memory_by f _ _ (value_stops (5 - c.args.level) c.args.count c.loop-done.done
     (to_pairs c.loop-done.pairs.items) (option_copied c.loop-done.previous) c.args.cursor.now c.loop-done.cursor
     c.key.new.self c.read_value.new.cursor (to_part c.in_ok-key.key.item) c.in_ok-key.key.bytes.now f.at f.kind
     c.loop-done-test.true c.loop-done.invariant c.in_ok-key.ensures.gives) c.in_err-value.ensures)

@@ -4,10 +4,10 @@ use Rattle.ctap_cbor.specs.declared.value.Value.TheFolds.{fold-roll-Value}
 use Rattle.ctap_cbor.specs.declared.value.Value.TheOpen as layer
 use Rattle.ctap_cbor.specs.declared.value.Value.TheVariants.{rolls-Map}
 use Rattle.ctap_cbor.specs.Tree as tree
-use Rattle.ctap_cbor.specs.{Tree.Tree, Head.head, Writes.last_text, Faults.AKey, Faults.is_above}
+use Rattle.ctap_cbor.specs.{Tree.Tree, Grammar.head, Writing.previous_encoding, Items.AKey, Items.is_above}
 use Rattle.std.proofs.lemmas.Result.{err_from_is_err_and, IfErr-weaker, MatchResult-weaker}
 use Rattle.std.specs.Prelude.{vec_capacity}
-use Rattle.ctap_cbor.specs.Grammar.{text, texts, pair_texts}
+use Rattle.ctap_cbor.specs.Grammar.{encode_tree, encode_trees, encode_pairs}
 use Rattle.ctap_cbor.specs.Values.{tree_step, to_tree, to_trees, to_pairs}
 use Rattle.ctap_cbor.proofs.Written.{array_written, array_fails, map_written, map_fails, item_stops_here}
 use Rattle.ctap_cbor.proofs.Written.{key_stops_here, value_stops_here, pair_here, above_here, span_within}
@@ -41,7 +41,7 @@ write_array-returns-in_err-write_head-clause-short t c =
     let cap : ℕ = vec_capacity c.args.out.now in
     if_memory c.from_residual.result _ (array_short cap (length vs) vs c.args.out.now.items refl
     (front_short cap c.args.out.now.items (head 4 (length vs))
-    (texts (to_trees vs)) c.in_err-write_head.ensures.short))
+    (encode_trees (to_trees vs)) c.in_err-write_head.ensures.short))
 
 pub write_array-returns-clause-short : goal.write_array-returns-clause-short
 write_array-returns-clause-short t c = grind (arith, common_steps, array_short)
@@ -52,7 +52,7 @@ write_map-returns-in_err-write_head-clause-short t c =
     let cap : ℕ = vec_capacity c.args.out.now in
     if_memory c.from_residual.result _ (map_short cap (length vs) vs c.args.out.now.items refl
     (front_short cap c.args.out.now.items (head 5 (length vs))
-    (pair_texts (to_pairs vs)) c.in_err-write_head.ensures.short))
+    (encode_pairs (to_pairs vs)) c.in_err-write_head.ensures.short))
 
 pub write_map-returns-clause-short : goal.write_map-returns-clause-short
 write_map-returns-clause-short t c =
@@ -63,7 +63,7 @@ write_map-returns-clause-short t c =
     IfErr-weaker c.write_pairs.result _ _
     (λ k short is. map_short cap (length vs) vs old refl
     (short_beyond cap (vec_capacity c.write_head.new.out) old middle (head 5 (length vs))
-    (pair_texts (to_pairs vs)) c.in_ok-write_head.ensures.ok c.write_head.ensures.grows (short is)))
+    (encode_pairs (to_pairs vs)) c.in_ok-write_head.ensures.ok c.write_head.ensures.grows (short is)))
     c.write_pairs.ensures.short
 
 pub write_array-returns-clause-writes : goal.write_array-returns-clause-writes
@@ -111,7 +111,7 @@ pub write_pairs-returns-in_err-write_key-clause-short : goal.write_pairs-returns
 write_pairs-returns-in_err-write_key-clause-short t c =
     let p = err_from_is_err_and c.from_residual.result c.from_residual.ensures.1 in
     rw (p.1, p.2) (λ is. key_short_here c.args.levels c.args.pairs.now c.loop-pair.pair-index c.pair-item.result
-    (last_text c.loop-pair.out.items c.loop-pair.previous) c.args.out.now.items c.loop-pair.out.items
+    (previous_encoding c.loop-pair.out.items c.loop-pair.previous) c.args.out.now.items c.loop-pair.out.items
     (vec_capacity c.args.out.now) (vec_capacity c.loop-pair.out) c.loop-pair-test.true c.pair-item.is
     c.loop-pair.invariant.left c.loop-pair.invariant.grows (c.in_err-write_key.ensures.short is))
 
@@ -120,7 +120,7 @@ write_pairs-returns-in_err-write_value-clause-short t c =
     let p = err_from_is_err_and c.from_residual-in_err-write_value.result c.from_residual-in_err-write_value.ensures.1
     in
     rw (p.1, p.2) (λ is. value_short_here c.args.levels c.args.pairs.now c.loop-pair.pair-index c.pair-item.result
-    (last_text c.loop-pair.out.items c.loop-pair.previous) c.args.out.now.items c.loop-pair.out.items
+    (previous_encoding c.loop-pair.out.items c.loop-pair.previous) c.args.out.now.items c.loop-pair.out.items
     c.write_key.new.out.items (vec_capacity c.args.out.now) (vec_capacity c.write_key.new.out) c.loop-pair-test.true
     c.pair-item.is c.loop-pair.invariant.left c.in_ok-write_key.ensures.writes.appended
     (omega (arith, c.loop-pair.invariant.grows, c.write_key.ensures.grows)) (c.in_err-write_value.ensures.short is))
@@ -129,7 +129,7 @@ pub write_pairs-returns-in_err-write_key-clause-writes : goal.write_pairs-return
 write_pairs-returns-in_err-write_key-clause-writes t c =
     let p = err_from_is_err_and c.from_residual.result c.from_residual.ensures.1 in
     rw (p.1, p.2) (key_stops_here c.args.levels c.args.pairs.now c.loop-pair.pair-index c.pair-item.result
-    (last_text c.loop-pair.out.items c.loop-pair.previous) c.args.out.now.items c.loop-pair.out.items
+    (previous_encoding c.loop-pair.out.items c.loop-pair.previous) c.args.out.now.items c.loop-pair.out.items
     c.write_key.new.out.items c.in_err-write_key.field-0.0 c.loop-pair-test.true c.pair-item.is
     c.loop-pair.invariant.left c.in_err-write_key.ensures.writes)
 
@@ -143,14 +143,14 @@ write_pairs-returns-in_err-write_value-clause-writes t c =
     let a = c.loop-pair.out.items in
     let b = c.write_key.new.out.items in
     let w = c.in_ok-write_key.ensures.writes in
-    let asked = above_here a b (text (to_tree v.0)) c.loop-pair.previous c.len-start.result c.loop-pair.invariant.span
+    let asked = above_here a b (encode_tree (to_tree v.0)) c.loop-pair.previous c.len-start.result c.loop-pair.invariant.span
     w.appended (c.len-start.ensures ∙ c.loop-pair.out.ok.0) in
-    let told = ap (λ x. is_above (AKey (last_text x c.loop-pair.previous)) (drop c.len-start.result x))
+    let told = ap (λ x. is_above (AKey (previous_encoding x c.loop-pair.previous)) (drop c.len-start.result x))
     (sym c.deref.ensures.value) ∙ sym c.is_above_last.ensures ∙ c.if-not-is_above_last.false in
     let p = err_from_is_err_and c.from_residual-in_err-write_value.result c.from_residual-in_err-write_value.ensures.1
     in
     rw (p.1, p.2) (value_stops_here c.args.levels c.args.pairs.now c.loop-pair.pair-index v
-    (last_text a c.loop-pair.previous) c.args.out.now.items a b c.write_value.new.out.items
+    (previous_encoding a c.loop-pair.previous) c.args.out.now.items a b c.write_value.new.out.items
     c.in_err-write_value.field-0.0 c.loop-pair-test.true c.pair-item.is c.loop-pair.invariant.left w (sym asked
     ∙ told) c.in_err-write_value.ensures.writes)
 
@@ -163,16 +163,16 @@ write_pairs-loop-pair-preserved t c =
     let u = c.in_ok-write_value.ensures.writes in
     let start = c.len-start.ensures ∙ c.loop-pair.out.ok.0 in
     let end = c.len.ensures ∙ c.write_key.new.out.ok.0 in
-    let asked = above_here a b (text (to_tree v.0)) c.loop-pair.previous c.len-start.result c.loop-pair.invariant.span
+    let asked = above_here a b (encode_tree (to_tree v.0)) c.loop-pair.previous c.len-start.result c.loop-pair.invariant.span
     w.appended start in
-    let told = ap (λ x. is_above (AKey (last_text x c.loop-pair.previous)) (drop c.len-start.result x))
+    let told = ap (λ x. is_above (AKey (previous_encoding x c.loop-pair.previous)) (drop c.len-start.result x))
     (sym c.deref.ensures.value) ∙ sym c.is_above_last.ensures ∙ c.if-not-is_above_last.false in
     record {
       grows = omega (arith, c.loop-pair.invariant.grows, c.write_key.ensures.grows, c.write_value.ensures.grows);
-      span = span_within a b c.write_value.new.out.items (text (to_tree v.0))
-          (text (to_tree v.1)) record { start = c.len-start.result; end = c.len.result } w.appended u.appended start
+      span = span_within a b c.write_value.new.out.items (encode_tree (to_tree v.0))
+          (encode_tree (to_tree v.1)) record { start = c.len-start.result; end = c.len.result } w.appended u.appended start
           end;
-      left = pair_here c.args.levels c.args.pairs.now c.loop-pair.pair-index v (last_text a c.loop-pair.previous)
+      left = pair_here c.args.levels c.args.pairs.now c.loop-pair.pair-index v (previous_encoding a c.loop-pair.previous)
           c.args.out.now.items a b c.write_value.new.out.items record { start = c.len-start.result; end = c.len.result }
           c.loop-pair-test.true c.pair-item.is c.loop-pair.invariant.left w (sym asked ∙ told) u start end;
     }

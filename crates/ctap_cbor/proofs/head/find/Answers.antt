@@ -1,11 +1,11 @@
 use Rattle.std.proofs.Common.{◌≡◌, ◌≢◌, ◌+◌, ◌-◌, ◌≤◌, List, ℕ, None, length, take, drop, false, refl, sym, ap, ◌∙◌, arith}
 use Rattle.std.proofs.lemmas.{Grind.common_steps, Str.is_utf8-from_IsUtf8, Str.IsUtf8-from_is_utf8, List.nil_from_length, Result.err_from_is_err_and}
 use Rattle.std.specs.Str.{is_utf8, IsUtf8}
-use Rattle.ctap_cbor.specs.Faults.{AnItem, first_fault_of, later_faults, body_faults, string_len, item_len, passed}
-use Rattle.ctap_cbor.specs.Head.{major, info, argument, argument_len, least_argument}
-use Rattle.ctap_cbor.specs.{Parts.read, Parts.One, Tree.Text, Tree.Bytes, Views.expected_of, Views.to_part}
+use Rattle.ctap_cbor.specs.Items.{AnItem, first_fault_of, later_faults, body_faults, string_len, item_len, passed}
+use Rattle.ctap_cbor.specs.Grammar.{major, info, argument, argument_len, least_argument}
+use Rattle.ctap_cbor.specs.{Items.read, Items.One, Tree.Text, Tree.Bytes, Views.expected_of, Views.to_part}
 use Rattle.ctap_cbor.specs.declared.fault.Kind.TheVariants.{Truncated, NotUtf8}
-use Rattle.ctap_cbor.proofs.Finding.{fault_first, info_known, passed_first, found_part, found_error}
+use Rattle.ctap_cbor.proofs.Cursors.{fault_first, info_known, passed_first, found_part, found_error}
 use Rattle.ctap_cbor.proofs.head.find.Goals.{in-0, in-1, in-4, in-5, in_default-major+in-20, in_default-major+in-21, in_default-major+in_default-2}
 use Rattle.ctap_cbor.proofs.head.find.Goals as goal
 

@@ -1,6 +1,6 @@
 use Rattle.std.proofs.Common.{arith}
-use Rattle.ctap_cbor.proofs.Taking.{all_bytes}
-use Rattle.ctap_cbor.proofs.Readings as lemmas
+use Rattle.ctap_cbor.proofs.Cursors.{all_bytes}
+use Rattle.ctap_cbor.proofs.Outcomes as lemmas
 use Rattle.ctap_cbor.proofs.laws.cursor_agrees_with_check.Goals as goal
 
 pub returns : goal.returns

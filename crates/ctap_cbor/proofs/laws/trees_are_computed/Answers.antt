@@ -1,4 +1,4 @@
-use Rattle.ctap_cbor.proofs.Telling as lemmas
+use Rattle.ctap_cbor.proofs.Outcomes as lemmas
 use Rattle.ctap_cbor.proofs.laws.trees_are_computed.Goals as goal
 
 pub returns : goal.returns

@@ -1,7 +1,7 @@
 use Rattle.std.proofs.Common.{◌≡◌, ℕ, ◌+◌, ◌≤◌, List, [], ◌∷◌, length, take, slice_set, refl, ap, ◌∙◌, arith}
 use Rattle.std.proofs.lemmas.Slice.{take-put_mid}
 use borrow.Rule.Slice.PartMut.{put_mid}
-use Rattle.ctap_cbor.{specs.Head.head, proofs.Appending.test_true, proofs.Appending.test_false}
+use Rattle.ctap_cbor.{specs.Grammar.head, proofs.Written.test_true, proofs.Written.test_false}
 use Rattle.ctap_cbor.proofs.sink.head_into.Goals as goal
 
 -- a first byte, and then an argument's bytes

@@ -1,4 +1,4 @@
-use Rattle.ctap_cbor.proofs.Answering.{found, only, ok_iff}
+use Rattle.ctap_cbor.proofs.Outcomes.{found, only, ok_iff}
 use Rattle.ctap_cbor.proofs.validation.check.Goals as goal
 
 pub returns-clause-found : goal.returns-clause-found

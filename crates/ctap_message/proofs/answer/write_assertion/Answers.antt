@@ -1,7 +1,7 @@
 use Rattle.std.{proofs.Common.append_assoc, specs.Option.option_copied}
-use Rattle.ctap_cbor.specs.Head.{head}
-use Rattle.ctap_message.specs.Answers.{with_number}
-use Rattle.ctap_message.proofs.Written.{user_then, joined, assertion_text}
+use Rattle.ctap_cbor.specs.Grammar.{head}
+use Rattle.ctap_message.specs.Responses.{with_number}
+use Rattle.ctap_message.proofs.Responses.{user_then, joined, assertion_text}
 use Rattle.ctap_message.proofs.answer.write_assertion.Goals as goal
 
 pub returns : goal.returns

@@ -1,6 +1,6 @@
 use Rattle.std.proofs.Common.{append_assoc, append-nil}
-use Rattle.ctap_cbor.specs.Head.{head}
-use Rattle.ctap_message.specs.Answers.{created_tree, created_answer}
+use Rattle.ctap_cbor.specs.Grammar.{head}
+use Rattle.ctap_message.specs.Responses.{created_tree, created_answer}
 use Rattle.ctap_message.proofs.answer.write_created.Goals as goal
 
 pub returns : goal.returns

@@ -1,6 +1,6 @@
 use Rattle.std.proofs.Common.{◌-◌}
-use Rattle.ctap_message.specs.{Descriptors.descriptor_types, Fields.descriptor_in, Collected.to_descriptor}
-use Rattle.ctap_message.proofs.{Collecting.map_read, Growing.descriptor_start}
+use Rattle.ctap_message.specs.{Members.descriptor_types, Fields.descriptor_in, Collected.to_descriptor}
+use Rattle.ctap_message.proofs.{Collecting.map_read, Collecting.descriptor_start}
 use Rattle.ctap_message.proofs.descriptor.read_descriptor.Goals as goal
 
 pub returns : goal.returns

@@ -1,8 +1,8 @@
 use Rattle.std.proofs.Common.{◌-◌, Some, sym, subst}
 use Rattle.ctap_cbor.specs.Tree.{no_trees}
-use Rattle.ctap_message.specs.{Members.entries_of, Members.map_of, Descriptors.descriptor_types, DescriptorWalk.IsAtFirst}
+use Rattle.ctap_message.specs.{Members.entries_of, Members.map_of, Members.descriptor_types, DescriptorWalk.IsAtFirst}
 use Rattle.ctap_message.{specs.Collected.listing_in, specs.Collected.to_list_summary, proofs.Collecting.array_read}
-use Rattle.ctap_message.proofs.Listing.{listing_start, is_list, list_read, no_walk, given_walk}
+use Rattle.ctap_message.proofs.Requests.{listing_start, is_list, list_read, no_walk, given_walk}
 use Rattle.ctap_message.proofs.descriptor.read_list.Goals.{then-found, else-found}
 use Rattle.ctap_message.proofs.descriptor.read_list.Goals as goal
 

@@ -1,5 +1,5 @@
 use Rattle.std.proofs.Common.{◌-◌}
-use Rattle.ctap_message.proofs.Growing.{texts_read}
+use Rattle.ctap_message.proofs.Collecting.{texts_read}
 use Rattle.ctap_message.proofs.descriptor.read_texts.Goals as goal
 
 pub returns : goal.returns

@@ -1,5 +1,5 @@
-use Rattle.ctap_message.{specs.GetAssertion.assertion_types, proofs.Collecting.map_read, proofs.Growing.assert_begins}
-use Rattle.ctap_message.specs.CollectedRequests.{assertion_in, to_assertion_parameters}
+use Rattle.ctap_message.{specs.Requests.assertion_types, proofs.Collecting.map_read, proofs.Collecting.assert_begins}
+use Rattle.ctap_message.specs.Collected.{assertion_in, to_assertion_parameters}
 use Rattle.ctap_message.proofs.get_assertion.parse_get_assertion.Goals as goal
 
 pub returns : goal.returns

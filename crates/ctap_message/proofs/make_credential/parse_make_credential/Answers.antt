@@ -1,5 +1,5 @@
-use Rattle.ctap_message.{specs.MakeCredential.make_types, proofs.Collecting.map_read, proofs.Growing.make_begins}
-use Rattle.ctap_message.specs.CollectedRequests.{make_in, to_make_parameters}
+use Rattle.ctap_message.{specs.Requests.make_types, proofs.Collecting.map_read, proofs.Collecting.make_begins}
+use Rattle.ctap_message.specs.Collected.{make_in, to_make_parameters}
 use Rattle.ctap_message.proofs.make_credential.parse_make_credential.Goals as goal
 
 pub returns : goal.returns

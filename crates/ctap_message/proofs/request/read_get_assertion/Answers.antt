@@ -1,12 +1,12 @@
 use Rattle.std.proofs.Common.{true, sym, ap, ◌∙◌}
 use Rattle.std.specs.Prelude.{Bool}
-use Rattle.ctap_cbor.specs.{Telling.canonical_tree, Telling.outcome_of, Tree.Trees}
-use Rattle.ctap_message.specs.{Members.map_of, Walks.typed, Judged.AssertionParameters, Judged.validated_assertion}
-use Rattle.ctap_message.specs.GetAssertion.{assertion_types, assertion_request}
-use Rattle.ctap_message.specs.CollectedRequests.{assertion_in, to_assertion_parameters}
+use Rattle.ctap_cbor.specs.{Outcome.canonical_tree, Outcome.outcome_of, Tree.Trees}
+use Rattle.ctap_message.specs.{Members.map_of, Collected.typed, Fields.AssertionParameters, Fields.validated_assertion}
+use Rattle.ctap_message.specs.Requests.{assertion_types, assertion_request}
+use Rattle.ctap_message.specs.Collected.{assertion_in, to_assertion_parameters}
 use Rattle.ctap_message.specs.RequestFaults.{assertion_fault_in, assertion_fault, fault_after}
-use Rattle.ctap_message.proofs.Asking.{accepted, never, refused, told}
-use Rattle.ctap_message.proofs.Refusing.{checked_whole}
+use Rattle.ctap_message.proofs.Requests.{accepted, never, refused, told}
+use Rattle.ctap_message.proofs.Requests.{checked_whole}
 use Rattle.ctap_message.proofs.request.read_get_assertion.Goals as goal
 
 pub returns-in-Err-clause-fault : goal.returns-in-Err-clause-fault

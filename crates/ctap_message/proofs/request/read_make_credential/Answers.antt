@@ -1,12 +1,12 @@
 use Rattle.std.proofs.Common.{true, sym, ap, ◌∙◌}
 use Rattle.std.specs.Prelude.{Bool}
-use Rattle.ctap_cbor.specs.{Telling.canonical_tree, Telling.outcome_of, Tree.Trees}
-use Rattle.ctap_message.specs.{Members.map_of, Walks.typed, Judged.MakeParameters, Judged.validated_make}
-use Rattle.ctap_message.specs.MakeCredential.{make_types, make_request}
-use Rattle.ctap_message.specs.CollectedRequests.{make_in, to_make_parameters}
+use Rattle.ctap_cbor.specs.{Outcome.canonical_tree, Outcome.outcome_of, Tree.Trees}
+use Rattle.ctap_message.specs.{Members.map_of, Collected.typed, Fields.MakeParameters, Fields.validated_make}
+use Rattle.ctap_message.specs.Requests.{make_types, make_request}
+use Rattle.ctap_message.specs.Collected.{make_in, to_make_parameters}
 use Rattle.ctap_message.specs.RequestFaults.{make_fault_in, make_fault, fault_after}
-use Rattle.ctap_message.proofs.Asking.{accepted, never, refused, told}
-use Rattle.ctap_message.proofs.Refusing.{checked_whole}
+use Rattle.ctap_message.proofs.Requests.{accepted, never, refused, told}
+use Rattle.ctap_message.proofs.Requests.{checked_whole}
 use Rattle.ctap_message.proofs.request.read_make_credential.Goals as goal
 
 pub returns-in-Err-clause-fault : goal.returns-in-Err-clause-fault

@@ -1,7 +1,7 @@
 use Rattle.std.proofs.Common.{◌≡◌, Some, arith, sym}
-use Rattle.ctap_message.specs.CollectedRequests.{to_make_parameters}
+use Rattle.ctap_message.specs.Collected.{to_make_parameters}
 use Rattle.ctap_message.specs.RequestFaults.{make_fault}
-use Rattle.ctap_message.proofs.Refusing.{make_refused}
+use Rattle.ctap_message.proofs.Requests.{make_refused}
 use Rattle.ctap_message.proofs.validate.validate_make_credential.Goals as goal
 
 pub returns-in-Some-fault_of_make-clause-request : goal.returns-in-Some-fault_of_make-clause-request

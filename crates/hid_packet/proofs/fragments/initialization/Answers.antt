@@ -1,5 +1,5 @@
 use Rattle.std.proofs.Common.{◌+◌, ◌∙◌, arith, length, length-append}
-use Rattle.hid_packet.{specs.Message.initialization_packet, proofs.Writing.filled}
+use Rattle.hid_packet.{specs.Message.initialization_packet, proofs.MessagePackets.filled}
 use Rattle.hid_packet.proofs.fragments.initialization.Goals as goal
 
 pub returns : goal.returns

@@ -1,5 +1,5 @@
 use Rattle.std.proofs.Common.{◌+◌, ◌/◌, ◌-◌, arith, sym, subst}
-use Rattle.hid_packet.{specs.Carries.IsLeast, proofs.Carrying.length-written, proofs.Carrying.least-rounded_up}
+use Rattle.hid_packet.{specs.Message.IsLeast, proofs.MessagePackets.length-written, proofs.MessagePackets.least-rounded_up}
 use Rattle.hid_packet.proofs.fragments.packets_for.Goals as goal
 
 pub returns-clause-written : goal.returns-clause-written

@@ -1,5 +1,5 @@
 use Rattle.std.proofs.Common.{rules, ◌≡◌, min, length}
-use Rattle.hidlog.proofs.Over.{where_sized, written_over}
+use Rattle.hidlog.proofs.Compared.{where_sized, written_over}
 use Rattle.hidlog.proofs.files.overwrite.Goals as goal
 
 pub returns-clause-bytes : goal.returns-clause-bytes

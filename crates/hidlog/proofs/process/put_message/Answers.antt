@@ -1,6 +1,6 @@
 use Rattle.std.proofs.Common.{ℕ, List, [], ◌∷◌, ◌++◌, Option, Result, Ok, Err, inl, inr, refl, rules}
 use Rattle.hidlog.specs.Program.{IsWrittenTo}
-use Rattle.session_show.specs.Written.{Writes}
+use Rattle.session_show.specs.Shown.{Writes}
 use Rattle.hidlog.proofs.process.put_message.Goals as goal
 
 -- what a target took of a write is a text, or the front of one

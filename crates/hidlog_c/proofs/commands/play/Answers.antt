@@ -1,6 +1,6 @@
 use Rattle.std.proofs.Common.{[], rules}
 use Rattle.session_log.specs.Replay.{PlaysWholeLog}
-use Rattle.hidlog_c.specs.{Commands.IsWritten, Commands.PlaysSliceIn, Switched.start_with}
+use Rattle.hidlog_c.specs.{Commands.IsWritten, Commands.PlaysSliceIn, Key.start_with}
 use Rattle.hidlog_c.proofs.Written.{by_command, written}
 use Rattle.hidlog_c.proofs.commands.play.Goals as goal
 

@@ -1,6 +1,6 @@
 use Rattle.std.proofs.Common.{rules}
-use Rattle.session_log.specs.{Replay.Plays, Replay.Writes, Session.live_history, Session.live_machine}
-use Rattle.hidlog_c.{specs.Lines.PlaysLinesOnHistory, specs.Lines.PlaysLines, proofs.Written.written}
+use Rattle.session_log.specs.{Replay.Plays, Replay.Writes, Replay.live_history, Replay.live_machine}
+use Rattle.hidlog_c.{specs.Commands.PlaysLinesOnHistory, specs.Commands.PlaysLines, proofs.Written.written}
 use Rattle.hidlog_c.proofs.lines.play.Goals as goal
 
 pub returns-clause-does : goal.returns-clause-does

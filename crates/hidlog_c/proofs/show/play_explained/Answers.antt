@@ -1,5 +1,5 @@
 use Rattle.std.proofs.Common.{ℕ, List, rules}
-use Rattle.session_log.specs.{Ending.Ending, Replay.Plays}
+use Rattle.session_log.specs.{Replay.Ending, Replay.Plays}
 use Rattle.session_show.specs.Shown.{IsLineText, IsTextUpTo, read_only_world}
 use Rattle.session_show.specs.declared.detail.Detail.TheVariants.{Explained}
 use Rattle.hidlog_c.proofs.Written.{written}

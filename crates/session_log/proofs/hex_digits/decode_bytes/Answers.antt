@@ -1,6 +1,6 @@
 use Rattle.std.proofs.Common.{◌++◌, ◌*◌, ◌/◌, List, ℕ, drop, length, replicate, ap, sym, ◌∙◌}
 use Rattle.std.specs.Option.{option_map}
-use Rattle.session_log.proofs.Zeros.{decode-trim_zeros, digits_of_zeros}
+use Rattle.session_log.proofs.Decoding.{decode-trim_zeros, digits_of_zeros}
 use Rattle.session_log.proofs.hex_digits.decode_bytes.Goals as goal
 
 pub returns-in_err-decode_digits : goal.returns-in_err-decode_digits

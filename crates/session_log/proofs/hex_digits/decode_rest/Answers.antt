@@ -1,5 +1,5 @@
 use Rattle.std.proofs.Common.{◌/◌, arith, length, sym, ◌∙◌}
-use Rattle.session_log.proofs.Zeros.{refused_rest, decoded_rest}
+use Rattle.session_log.proofs.Decoding.{refused_rest, decoded_rest}
 use Rattle.session_log.proofs.hex_digits.decode_rest.Goals as goal
 
 pub returns-in_err-group : goal.returns-in_err-group

@@ -1,6 +1,6 @@
 use Rattle.std.proofs.Common.{◌≡◌, ◌<◌, ℕ, length, slice_index}
 use Rattle.hex.specs.Hex.{hex_digit_value}
-use Rattle.session_log.specs.Parsed.{value_below_16}
+use Rattle.session_log.specs.Grammar.{value_below_16}
 use Rattle.session_log.proofs.hex_digits.digit_values.Given as goal
 
 abbrev pub invariant-digits : goal.invariant-digits

@@ -1,5 +1,5 @@
 use Rattle.std.proofs.Common.{◌+◌, ◌∙◌, length, ◌-◌}
-use Rattle.session_log.proofs.Zeros.{one_group_more}
+use Rattle.session_log.proofs.Decoding.{one_group_more}
 use Rattle.session_log.proofs.hex_digits.trim_groups.Goals as goal
 
 pub loop-front-preserved : goal.loop-front-preserved

@@ -1,5 +1,5 @@
 use Rattle.std.proofs.Common.{arith}
-use Rattle.session_log.specs.{Check.first_comparison, Lines.lines, Session.history_semantics}
+use Rattle.session_log.specs.{Check.first_comparison, Lines.lines, Replay.history_semantics}
 use Rattle.session_log.proofs.Groups.{check_is_silent, same_groups, counts_on}
 use Rattle.session_log.proofs.laws.checked_logs_have_the_sent_packets.Goals as goal
 

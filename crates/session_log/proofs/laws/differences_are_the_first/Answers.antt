@@ -1,4 +1,4 @@
-use Rattle.session_log.{specs.Lines.lines, specs.Session.history_semantics, proofs.Groups.first_difference}
+use Rattle.session_log.{specs.Lines.lines, specs.Replay.history_semantics, proofs.Groups.first_difference}
 use Rattle.session_log.proofs.laws.differences_are_the_first.Goals as goal
 
 pub returns : goal.returns

@@ -1,4 +1,4 @@
-use Rattle.session_log.proofs.Tells.{last_says, pieces_joined, pieces_short}
+use Rattle.session_log.proofs.Spelled.{last_says, pieces_joined, pieces_short}
 use Rattle.session_log.proofs.laws.needs_are_reported_once.Goals as goal
 
 pub returns-clause-last : goal.returns-clause-last

@@ -1,5 +1,5 @@
 use Rattle.std.proofs.Common.{drop}
-use Rattle.session_log.proofs.Digits.{SoFar}
+use Rattle.session_log.proofs.Spelled.{SoFar}
 use Rattle.session_log.proofs.line.parse_digits.Given as goal
 
 -- the digits before this one write the number

@@ -1,5 +1,5 @@
 use Rattle.std.proofs.{Common.arith, lemmas.Bool.eqb-true, lemmas.Bool.eqb-false}
-use Rattle.session_log.proofs.Digits.{moment_read, no_empty_moment, no_padded_moment}
+use Rattle.session_log.proofs.Spelled.{moment_read, no_empty_moment, no_padded_moment}
 use Rattle.session_log.proofs.line.parse_time.Goals.{then-is_empty-via-then-is_empty}
 use Rattle.session_log.proofs.line.parse_time.Goals.{then-is_empty-via-else-is_empty+then-is_padded}
 use Rattle.session_log.proofs.line.parse_time.Goals as goal

@@ -1,6 +1,6 @@
 use Rattle.std.proofs.{lemmas.Grind.common_steps, KnownBytes.Consumes-nil}
 use Rattle.std.proofs.Common.{◌<◌, ◌≤◌, ◌+◌, ◌-◌, ◌^◌, ℕ, append-nil, length, refl, arith, sym, subst, ap, ◌∙◌}
-use Rattle.session_log.{specs.Window.IsUnfinished, proofs.Gathering.gathers, proofs.Gathering.in_count}
+use Rattle.session_log.{specs.Lines.IsUnfinished, proofs.Cutting.gathers, proofs.Cutting.in_count}
 use Rattle.session_log.proofs.line_reader.next_line.Goals as goal
 
 below_full : (n : ℕ) → (256 ≤ n → ⊥) → n < 256

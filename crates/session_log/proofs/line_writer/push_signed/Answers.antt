@@ -1,5 +1,5 @@
 use Rattle.std.proofs.Common.{append_assoc, arith, length-drop, length-take}
-use Rattle.session_log.proofs.Tells.{pieces_more, one_less}
+use Rattle.session_log.proofs.Spelled.{pieces_more, one_less}
 use Rattle.session_log.proofs.line_writer.push_signed.Goals as goal
 
 pub loop-rest-preserved : goal.loop-rest-preserved

@@ -1,5 +1,5 @@
 use Rattle.std.proofs.Common.{◌∙◌, List, ℕ, refl, ap, sym, subst, arith}
-use Rattle.session_log.specs.{Ending.ending_of, Replay.PlaysLine, Text.with_line_feed}
+use Rattle.session_log.specs.{Replay.ending_of, Replay.PlaysLine, World.with_line_feed}
 use Rattle.session_log.proofs.Cutting.{cut_twice, fits_in, fits_in_text, short_front}
 use Rattle.session_log.proofs.player.process_first_line.Goals as goal
 

@@ -1,11 +1,11 @@
 use Rattle.std.proofs.Common.{◌≡◌, ◌<◌, ◌+◌, ◌-◌, ◌^◌, ℕ, List, sym, subst, [], ◌++◌, length, take, Err, refl, ap, ◌∙◌}
 use Rattle.std.proofs.{Common.arith, lemmas.List.nil_from_length, lemmas.Result.err_from_is_err_and}
 use Rattle.std.proofs.KnownBytes.{Consumes-nil, Appends-nil}
-use Rattle.session_log.specs.{Ending.ending_of_fault, Ending.ending_of, Replay.PlaysLine, Streams.IsAtEndOfInput}
+use Rattle.session_log.specs.{Replay.ending_of_fault, Replay.ending_of, Replay.PlaysLine, Lines.IsAtEndOfInput}
 use Rattle.session_log.proofs.{Cutting.ends_in_feed, Cutting.last_text, Through.through_none, Through.played_none}
-use Rattle.session_log.proofs.{Whole.stops, Gathering.in_count, Failures.stops_unwritten}
-use Rattle.session_log.proofs.Exits.{read_on, goes_on, stops_reading, stops_in_front, ends, some_left}
-use Rattle.session_log.proofs.Failures.{on_any, on_err, on_ok, counts_none, counts_on, plays_counts, plays_unread}
+use Rattle.session_log.proofs.{Worlds.stops, Cutting.in_count, Through.stops_unwritten}
+use Rattle.session_log.proofs.Through.{read_on, goes_on, stops_reading, stops_in_front, ends, some_left}
+use Rattle.session_log.proofs.Through.{on_any, on_err, on_ok, counts_none, counts_on, plays_counts, plays_unread}
 use Rattle.session_log.proofs.Lasts.{faulty_in_front, faulty_last, none_bad}
 use Rattle.session_log.proofs.player.process_lines.Goals as goal
 

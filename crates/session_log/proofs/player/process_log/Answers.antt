@@ -1,6 +1,6 @@
 use Rattle.std.proofs.Common.{◌<◌, ◌-◌, ◌^◌, ℕ, Err, ap, sym, subst, ◌∙◌}
 use Rattle.std.proofs.lemmas.Result.{err_from_is_err_and}
-use Rattle.session_log.proofs.Whole.{ends_with, fails_with}
+use Rattle.session_log.proofs.Worlds.{ends_with, fails_with}
 use Rattle.session_log.proofs.player.process_log.Goals as goal
 
 pub returns-in_err-process_lines : goal.returns-in_err-process_lines

@@ -1,7 +1,7 @@
 use Rattle.std.proofs.Common.{Ok, Err, sym, subst, ◌∙◌, ap, ◌≡◌}
 use Rattle.std.proofs.lemmas.Result.{err_from_is_err_and}
 use Rattle.session_log.specs.declared.fault.Failed.{Failed}
-use Rattle.session_show.{specs.Written.Writes, proofs.Parts.puts_on}
+use Rattle.session_show.{specs.Shown.Writes, proofs.Told.puts_on}
 use Rattle.session_show.proofs.chunked.put_chunks.Goals as goal
 
 pub returns-in_err-put_all : goal.returns-in_err-put_all

@@ -1,6 +1,6 @@
 use Rattle.std.proofs.Common.{◌≡◌, ◌++◌, ◌∷◌, [], decimal, subst, arith}
-use Rattle.session_log.specs.Streams.{WritesAll}
-use Rattle.session_show.proofs.Parts.{numbered_on}
+use Rattle.session_log.specs.Lines.{WritesAll}
+use Rattle.session_show.proofs.Told.{numbered_on}
 use Rattle.session_show.proofs.chunked.put_with_line_number.Goals as goal
 
 pub returns : goal.returns

@@ -2,15 +2,15 @@ use Rattle.std.proofs.Common.{◌≡◌, ◌<◌, ◌+◌, ℕ, List, [], ◌∷
 use Rattle.std.{proofs.Common.arith, specs.Io.KnownBytes.Consumes}
 use Rattle.std.proofs.KnownBytes.{Consumes-nil, Appends-nil, Appends-trans}
 use Rattle.std.proofs.lemmas.{List.nil_from_length, Result.err_from_is_err_and}
-use Rattle.session_log.proofs.{Cutting.last_line, Gathering.in_count}
+use Rattle.session_log.proofs.{Cutting.last_line, Cutting.in_count}
 use Rattle.std.proofs.Common.{Result, append-nil, ◌-◌}
-use Rattle.session_log.specs.Ending.{Done, Ending, ending_of_fault, ending_of, read_fails, write_fails}
-use Rattle.session_log.specs.{Replay.ReadsTo, Lines.lines, Log.line_text, Window.IsUnfinished}
-use Rattle.session_log.specs.{Streams.Counts, Streams.IsAtEndOfInput, declared.fault.LogFault.LogFault}
+use Rattle.session_log.specs.Replay.{Done, Ending, ending_of_fault, ending_of, read_fails, write_fails}
+use Rattle.session_log.specs.{Replay.ReadsTo, Lines.lines, Replay.line_text, Lines.IsUnfinished}
+use Rattle.session_log.specs.{Lines.Counts, Lines.IsAtEndOfInput, declared.fault.LogFault.LogFault}
 use Rattle.session_log.proofs.Through.{through_none, played_none}
-use Rattle.session_log.proofs.{Cutting.line_in_front, Failures.stops_unwritten}
-use Rattle.session_log.proofs.Exits.{read_on, short_in_front, some_left}
-use Rattle.session_log.proofs.Failures.{on_any, on_err, counts_none, counts_on, plays_counts, plays_unread}
+use Rattle.session_log.proofs.{Cutting.line_in_front, Through.stops_unwritten}
+use Rattle.session_log.proofs.Through.{read_on, short_in_front, some_left}
+use Rattle.session_log.proofs.Through.{on_any, on_err, counts_none, counts_on, plays_counts, plays_unread}
 use Rattle.session_log.proofs.Lasts.{faulty_in_front, faulty_last, none_bad}
 use Rattle.session_show.specs.Shown.{Shows, ShowsLine, WritesEnd, WritesLine, read_only_world, rule_for_format, unknown_bytes, failures_of}
 use Rattle.session_show.specs.declared.log_writer.OutputFormat.{OutputFormat}

@@ -1,5 +1,5 @@
 use Rattle.std.proofs.Common.{subst}
-use Rattle.session_log.specs.Ending.{ending_of}
+use Rattle.session_log.specs.Replay.{ending_of}
 use Rattle.session_show.specs.{Shown.Shows, Shown.rule_for_format, declared.log_writer.OutputFormat.OutputFormat}
 use Rattle.session_show.proofs.show_log.write_transactions.Goals as goal
 

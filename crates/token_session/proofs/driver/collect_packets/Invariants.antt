@@ -1,6 +1,6 @@
 use Rattle.std.proofs.Common.{◌≡◌, ◌+◌, ◌≤◌, ◌++◌, length, map}
 use Rattle.arrayvec.specs.ArrayVec.{array_vec_len}
-use Rattle.token_session.specs.{Law.with_input_number, Drive.numbered_packet}
+use Rattle.token_session.specs.{History.with_input_number, Meters.numbered_packet}
 use Rattle.token_session.proofs.driver.collect_packets.Given as goal
 
 abbrev pub invariant-loop-packet : goal.invariant-loop-packet

@@ -1,8 +1,8 @@
 use Rattle.std.proofs.Common.{◌≡◌, ◌++◌, length, take, map, ◌∙◌, ap, refl, sym, append-nil, arith, below_more}
 use Rattle.std.proofs.lemmas.List.{length-map}
 use Rattle.arrayvec.specs.ArrayVec.{array_vec_len}
-use Rattle.token_session.{specs.Drive.numbered_packet, proofs.Drives.driven_follows, proofs.Answered.told_from_is}
-use Rattle.token_session.proofs.Drives.{driven_more, whole_more, sends_more, capacity_here, driven_stands}
+use Rattle.token_session.{specs.Meters.numbered_packet, proofs.Metering.driven_follows, proofs.Answered.told_from_is}
+use Rattle.token_session.proofs.Metering.{driven_more, whole_more, sends_more, capacity_here, driven_stands}
 use Rattle.token_session.proofs.driver.drive.Goals as goal
 
 pub returns-then-remaining_capacity-lt-OUTBOX_CAPACITY : goal.returns-then-remaining_capacity-lt-OUTBOX_CAPACITY

@@ -1,5 +1,5 @@
 use Rattle.std.proofs.Common.{◌≡◌, ◌++◌, [], map, take}
-use Rattle.token_session.specs.{Carried.ArriveWithFullPackets, Drive.numbered_packet, Drive.state_after_inputs, Drive.packets_of_inputs, Drive.HadCapacity}
+use Rattle.token_session.specs.{Carried.ArriveWithFullPackets, Meters.numbered_packet, Meters.state_after_inputs, Meters.packets_of_inputs, Meters.HadCapacity}
 use Rattle.token_session.proofs.driver.drive.Given as goal
 
 abbrev pub invariant-loop-i : goal.invariant-loop-i

@@ -1,4 +1,4 @@
-use Rattle.token_session.proofs.Drives.{drives_alike}
+use Rattle.token_session.proofs.Metering.{drives_alike}
 use Rattle.token_session.proofs.driver.drive_both.Goals as goal
 
 pub returns-clause-alike : goal.returns-clause-alike

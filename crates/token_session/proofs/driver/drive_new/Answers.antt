@@ -1,5 +1,5 @@
 use Rattle.std.proofs.Common.{[], length, take}
-use Rattle.token_session.specs.{Drive.inputs_done, History.received}
+use Rattle.token_session.specs.{Meters.inputs_done, History.received}
 use Rattle.token_session.proofs.{Headline.meters_named, Headline.run_answered, Headline.whole_reverse, Sizes.session_small}
 use Rattle.token_session.proofs.driver.drive_new.Goals as goal
 

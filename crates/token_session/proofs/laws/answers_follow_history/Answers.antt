@@ -1,8 +1,8 @@
 use Rattle.std.proofs.Common.{ap, ◌∙◌}
-use Rattle.token_session.specs.{Answered.packets_sent, Credentials.steps, History.receive, History.received}
+use Rattle.token_session.specs.{Answered.packets_sent, Answered.steps, History.receive, History.received}
 use Rattle.cred_table.specs.Rows.{ValidRows}
 use Rattle.authn_core.specs.Turn.{Start}
-use Rattle.token_session.proofs.Credentials.{core_is, orderly}
+use Rattle.token_session.proofs.Answered.{core_is, orderly}
 use Rattle.token_session.proofs.Answered.{Law, judged_told_so, happened_steps, waits_told, sent_told_so}
 use Rattle.token_session.proofs.laws.answers_follow_history.Goals as goal
 

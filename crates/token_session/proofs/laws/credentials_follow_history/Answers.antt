@@ -1,6 +1,6 @@
 use Rattle.std.proofs.Common.{refl}
 use Rattle.token_session.specs.History.{received}
-use Rattle.token_session.proofs.Credentials.{core_is, first_ready, orderly}
+use Rattle.token_session.proofs.Answered.{core_is, first_ready, orderly}
 use Rattle.token_session.proofs.laws.credentials_follow_history.Goals as goal
 
 pub returns : goal.returns

@@ -1,9 +1,9 @@
 use Rattle.std.proofs.Common.{arith, length, ◌≤◌, ◌∙◌, subst, List}
 use Rattle.token_session.specs.Inputs.{ReceivedInput}
-use Rattle.hid_packet.specs.Limits.{MAX_MESSAGE_LEN}
+use Rattle.hid_packet.specs.Packet.{MAX_MESSAGE_LEN}
 use Rattle.cred_table.specs.declared.row.Row.{Row}
-use Rattle.token_session.{specs.History.received, specs.History.held, specs.History.core, proofs.Bounds.held_few}
-use Rattle.token_session.proofs.Credentials.{core_is, first_ready}
+use Rattle.token_session.{specs.History.received, specs.History.held, specs.History.core, proofs.Carrying.held_few}
+use Rattle.token_session.proofs.Answered.{core_is, first_ready}
 use Rattle.token_session.proofs.Headline.{turns_send_sent, all_carried, all_few}
 use Rattle.token_session.proofs.laws.every_history_is_answered.Goals as goal
 

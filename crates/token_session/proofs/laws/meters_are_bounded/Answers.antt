@@ -1,6 +1,6 @@
 use Rattle.ctap_message.specs.Requests.{steps_of}
 use Rattle.token_session.specs.{History.received, Meters.meters_of, Meters.requests}
-use Rattle.token_session.proofs.Bounds.{peak_few, few_steps, few_capped}
+use Rattle.token_session.proofs.Carrying.{peak_few, few_steps, few_capped}
 use Rattle.token_session.proofs.laws.meters_are_bounded.Goals as goal
 
 pub returns : goal.returns

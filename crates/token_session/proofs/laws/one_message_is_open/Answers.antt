@@ -1,6 +1,6 @@
 use Rattle.std.proofs.Common.{[]}
-use Rattle.token_session.specs.{Messages.open_at, History.received}
-use Rattle.token_session.proofs.{Bounds.one_open, Bounds.held_few, Follows.good_judged}
+use Rattle.token_session.specs.{Inputs.open_at, History.received}
+use Rattle.token_session.proofs.{Carrying.one_open, Carrying.held_few, Follows.good_judged}
 use Rattle.token_session.proofs.laws.one_message_is_open.Goals as goal
 
 pub returns : goal.returns

@@ -1,5 +1,5 @@
-use Rattle.token_session.specs.{Credentials.steps, History.receive, History.received}
-use Rattle.token_session.proofs.Credentials.{core_is, orderly, signature_at}
+use Rattle.token_session.specs.{Answered.steps, History.receive, History.received}
+use Rattle.token_session.proofs.Answered.{core_is, orderly, signature_at}
 use Rattle.token_session.proofs.laws.signed_bytes_are_in_the_response.Goals as goal
 
 pub returns : goal.returns

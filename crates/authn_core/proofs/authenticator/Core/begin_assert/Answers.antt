@@ -1,7 +1,7 @@
 use Rattle.std.proofs.Common.{◌≡◌, ◌∙◌, refl, rules, arith}
 use Rattle.cred_table.specs.Rows.{ids}
-use Rattle.ctap_message.specs.{Members.has_entries, Descriptors.ids_of, DescriptorWalk.left_of}
-use Rattle.authn_core.{specs.GetAssertion.applicable_rows, proofs.Readiness.applicable_there}
+use Rattle.ctap_message.specs.{Members.has_entries, Members.ids_of, DescriptorWalk.left_of}
+use Rattle.authn_core.{specs.Turn.applicable_rows, proofs.Histories.applicable_there}
 use Rattle.authn_core.proofs.authenticator.Core.begin_assert.Goals as goal
 
 pub invariant_of-self : goal.invariant_of-self

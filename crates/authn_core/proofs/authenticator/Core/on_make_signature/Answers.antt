@@ -1,5 +1,5 @@
 use Rattle.std.proofs.Common.{sym, rules}
-use Rattle.authn_core.proofs.Facts.{data_signed}
+use Rattle.authn_core.proofs.Kept.{data_signed}
 use Rattle.authn_core.proofs.authenticator.Core.on_make_signature.Goals as goal
 
 pub slice_bounds-data-end : goal.slice_bounds-data-end

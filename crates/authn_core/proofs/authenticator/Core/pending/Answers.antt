@@ -1,5 +1,5 @@
 use Rattle.std.proofs.Common.{ap, ◌∙◌}
-use Rattle.cred_table.specs.Waiting.{pending_count}
+use Rattle.cred_table.specs.Rows.{pending_count}
 use Rattle.authn_core.specs.Turn.{CoreContents}
 use Rattle.authn_core.proofs.authenticator.Core.pending.Goals as goal
 

@@ -1,5 +1,5 @@
 use Rattle.std.proofs.Common.{arith}
-use Rattle.authn_core.proofs.Readiness.{pending_raised, find_raised}
+use Rattle.authn_core.proofs.Histories.{pending_raised, find_raised}
 use Rattle.authn_core.proofs.authenticator.Core.sign.Goals as goal
 
 pub returns : goal.returns

@@ -1,6 +1,6 @@
 use Rattle.std.proofs.Common.{◌≡◌, []}
-use Rattle.ctap_message.specs.{Descriptors.ids_of, DescriptorWalk.left_of}
-use Rattle.authn_core.specs.GetAssertion.{find_allowed}
+use Rattle.ctap_message.specs.{Members.ids_of, DescriptorWalk.left_of}
+use Rattle.authn_core.specs.Turn.{find_allowed}
 use Rattle.authn_core.proofs.commands.get_assertion.collect_applicable.Given as goal
 
 abbrev pub invariant-walk : goal.invariant-walk

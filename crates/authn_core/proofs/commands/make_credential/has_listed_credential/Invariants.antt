@@ -1,6 +1,6 @@
 use Rattle.std.proofs.Common.{◌≡◌}
-use Rattle.ctap_message.specs.{Descriptors.ids_of, DescriptorWalk.left_of}
-use Rattle.authn_core.specs.MakeCredential.{has_listed_credential}
+use Rattle.ctap_message.specs.{Members.ids_of, DescriptorWalk.left_of}
+use Rattle.authn_core.specs.Turn.{has_listed_credential}
 use Rattle.authn_core.proofs.commands.make_credential.has_listed_credential.Given as goal
 
 abbrev pub invariant-walk : goal.invariant-walk

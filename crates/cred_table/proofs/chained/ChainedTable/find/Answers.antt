@@ -1,8 +1,8 @@
 use Rattle.std.proofs.Common.{◌≡◌, ℕ, List, Bor, option_map, refl, ◌∙◌, ap, rules}
 use Rattle.std.specs.List.{find}
 use Rattle.std.proofs.lemmas.Iterator.{Consumers.YieldsList-from_first, Search.find_from_yields_List}
-use Rattle.cred_table.specs.{declared.row.Row.Row, declared.slot.Slot.Slot, Rows.has_id, Slots.bucket, Linked.id_slots}
-use Rattle.cred_table.proofs.Found.{seen, found_row, found_alike}
+use Rattle.cred_table.specs.{declared.row.Row.Row, declared.slot.Slot.Slot, Rows.has_id, Slots.bucket, Slots.id_slots}
+use Rattle.cred_table.proofs.Filled.{seen, found_row, found_alike}
 use Rattle.cred_table.proofs.chained.ChainedTable.find.Goals as goal
 
 pub returns : goal.returns

@@ -2,8 +2,8 @@ use Rattle.std.proofs.Common.{◌≡◌, ℕ, List, Bor, option_map, refl, ◌�
 use Rattle.std.{specs.List.find, specs.Str.bytes_eq, proofs.lemmas.Bool.and_parts}
 use Rattle.std.proofs.lemmas.Iterator.{Consumers.YieldsList-from_first, Search.find_from_yields_List}
 use Rattle.cred_table.specs.declared.{row.Row.Row, slot.Slot.Slot}
-use Rattle.cred_table.specs.{Rows.is_named, Slots.bucket, Linked.id_slots}
-use Rattle.cred_table.proofs.Found.{seen, found_row, found_alike}
+use Rattle.cred_table.specs.{Rows.is_named, Slots.bucket, Slots.id_slots}
+use Rattle.cred_table.proofs.Filled.{seen, found_row, found_alike}
 use Rattle.cred_table.proofs.chained.ChainedTable.named.Goals as goal
 
 pub returns : goal.returns

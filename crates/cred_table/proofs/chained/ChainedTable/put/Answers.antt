@@ -1,5 +1,5 @@
 use Rattle.std.proofs.{lemmas.Grind.common_steps, Common.arith}
-use Rattle.cred_table.{specs.Linked.rows_in, proofs.Places.Lawful-put}
+use Rattle.cred_table.{specs.Slots.rows_in, proofs.Stored.Lawful-put}
 use Rattle.cred_table.proofs.Stored.{none_replaced, stored_last}
 use Rattle.cred_table.proofs.chained.ChainedTable.put.Goals as goal
 

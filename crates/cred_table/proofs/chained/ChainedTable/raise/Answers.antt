@@ -1,6 +1,6 @@
 use Rattle.std.proofs.{lemmas.Grind.common_steps, Common.arith}
-use Rattle.cred_table.specs.Linked.{slots_by_age, rows_in}
-use Rattle.cred_table.proofs.{Raised.Lawful-raised, Found.raised_is, Found.counter_slot}
+use Rattle.cred_table.specs.Slots.{slots_by_age, rows_in}
+use Rattle.cred_table.proofs.{Stored.Lawful-raised, Filled.raised_is, Filled.counter_slot}
 use Rattle.cred_table.proofs.chained.ChainedTable.raise.Goals as goal
 
 pub raise-requires : goal.raise-requires

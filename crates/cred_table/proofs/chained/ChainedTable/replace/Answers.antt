@@ -1,8 +1,8 @@
 use Rattle.std.proofs.lemmas.Grind.{common_steps}
 use Rattle.std.proofs.Common.{◌∙◌, List, ◌++◌, ◌∷◌, [], ap, arith}
-use Rattle.cred_table.{specs.declared.row.Row.Row, proofs.Found.but_without}
-use Rattle.cred_table.specs.Linked.{slots_by_age, row_at, rows_in}
-use Rattle.cred_table.proofs.Places.{id_found, replaced_is, Lawful-replace}
+use Rattle.cred_table.{specs.declared.row.Row.Row, proofs.Filled.but_without}
+use Rattle.cred_table.specs.Slots.{slots_by_age, row_at, rows_in}
+use Rattle.cred_table.proofs.Stored.{id_found, replaced_is, Lawful-replace}
 use Rattle.cred_table.proofs.chained.ChainedTable.replace.Goals as goal
 
 pub number-number-requires : goal.number-number-requires

@@ -1,5 +1,5 @@
 use Rattle.std.proofs.Common.{rules, sym, ◌∙◌}
-use Rattle.cred_table.{specs.Linked.rows_in, proofs.Listing.listed_begun, proofs.Listing.listed_capacity}
+use Rattle.cred_table.{specs.Slots.rows_in, proofs.Listing.listed_begun, proofs.Listing.listed_capacity}
 use Rattle.cred_table.proofs.chained.ChainedTable.rows_of.Goals as goal
 
 pub loop-slot-init : goal.loop-slot-init

@@ -1,5 +1,5 @@
 use Rattle.std.proofs.Common.{◌≡◌, ◌++◌}
-use Rattle.cred_table.{specs.Rows.discoverable_rows, specs.Rows.ids, specs.Linked.rows_in, proofs.Listing.listed_left}
+use Rattle.cred_table.{specs.Rows.discoverable_rows, specs.Rows.ids, specs.Slots.rows_in, proofs.Listing.listed_left}
 use Rattle.cred_table.proofs.chained.ChainedTable.rows_of.Given as goal
 
 -- what was written, and what the slots that are left list

@@ -1,8 +1,8 @@
 use Rattle.std.proofs.Common.{◌≡◌, ℕ, List, Bor, Option, Some, None, option_map, refl, sym, ◌∙◌, ap, rules}
 use Rattle.std.specs.List.{find}
 use Rattle.std.proofs.lemmas.Iterator.{Consumers.YieldsList-from_first, Search.find_from_yields_List}
-use Rattle.cred_table.specs.{declared.row.Row.Row, declared.slot.Slot.Slot, Rows.is_user, Linked.slots_by_age}
-use Rattle.cred_table.proofs.Found.{seen, found_row}
+use Rattle.cred_table.specs.{declared.row.Row.Row, declared.slot.Slot.Slot, Rows.is_user, Slots.slots_by_age}
+use Rattle.cred_table.proofs.Filled.{seen, found_row}
 use Rattle.cred_table.proofs.chained.ChainedTable.same_user.Goals as goal
 
 -- the id of a row that is found

@@ -1,6 +1,6 @@
 use Rattle.std.proofs.Common.{option_map, ℕ, List, Option, ◌∙◌, ap}
 use Rattle.std.specs.List.{find}
-use Rattle.cred_table.specs.{declared.slot.Slot.Slot, Linked.id_slots, Linked.row_at}
+use Rattle.cred_table.specs.{declared.slot.Slot.Slot, Slots.id_slots, Slots.row_at}
 use Rattle.cred_table.specs.Slots.{points_to, numbered, bucket}
 use Rattle.cred_table.proofs.{Unlinked.before_is, Chain.slot_read}
 use Rattle.cred_table.proofs.chains.Chains.before.Goals as goal

@@ -1,5 +1,5 @@
 use Rattle.std.proofs.Common.{◌<◌, ◌∙◌, [], length, arith, sym, subst, ap}
-use Rattle.cred_table.specs.{declared.chains.Chains.Chains, Linked.Linked, Linked.rows_in}
+use Rattle.cred_table.specs.{declared.chains.Chains.Chains, Slots.Linked, Slots.rows_in}
 use Rattle.cred_table.proofs.Filled.{fill, fill_code, within_back}
 use Rattle.cred_table.proofs.chains.Chains.fill.Goals as goal
 

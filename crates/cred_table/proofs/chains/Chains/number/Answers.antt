@@ -2,7 +2,7 @@ use Rattle.std.proofs.Common.{ℕ, List, refl, ◌∙◌, ap, rules}
 use Rattle.std.specs.List.{find}
 use Rattle.std.proofs.lemmas.Iterator.{Consumers.YieldsList-from_first, Search.find_from_yields_List}
 use Rattle.cred_table.specs.{declared.slot.Slot.Slot, Rows.has_id}
-use Rattle.cred_table.proofs.Found.{seen, slot_found, slot_there}
+use Rattle.cred_table.proofs.Filled.{seen, slot_found, slot_there}
 use Rattle.cred_table.proofs.chains.Chains.number.Goals as goal
 
 pub unwrap-requires : goal.unwrap-requires

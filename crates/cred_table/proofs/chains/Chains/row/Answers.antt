@@ -1,6 +1,6 @@
 use Rattle.std.proofs.Common.{ℕ, List, refl, ◌∙◌, ap, slice_get}
 use Rattle.std.proofs.lemmas.Iterator.Consumers.{YieldsList-from_first, nth_from_yields_List}
-use Rattle.cred_table.{specs.declared.slot.Slot.Slot, specs.Linked.slots_by_age, proofs.Found.seen, proofs.Found.nth_row}
+use Rattle.cred_table.{specs.declared.slot.Slot.Slot, specs.Slots.slots_by_age, proofs.Filled.seen, proofs.Filled.nth_row}
 use Rattle.cred_table.proofs.chains.Chains.row.Goals as goal
 
 pub unwrap-item-requires : goal.unwrap-item-requires

@@ -1,6 +1,6 @@
 use Rattle.std.proofs.Common.{arith, sym, subst, List}
 use Rattle.cred_table.specs.{declared.row.Row.Row, Rows.ValidRows}
-use Rattle.cred_table.proofs.{Stored.none_replaced, Stored.stored_last, Places.Lawful-put}
+use Rattle.cred_table.proofs.{Stored.none_replaced, Stored.stored_last, Stored.Lawful-put}
 use Rattle.cred_table.proofs.listed.ListedTable.put.Goals as goal
 
 pub invariant_of-self : goal.invariant_of-self

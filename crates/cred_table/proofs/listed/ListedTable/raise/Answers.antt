@@ -1,6 +1,6 @@
 use Rattle.std.proofs.Common.{sym, subst, List, arith}
 use Rattle.cred_table.specs.{declared.row.Row.Row, Rows.ValidRows}
-use Rattle.cred_table.proofs.{Places.written_is, Places.counter_is, Raised.Lawful-raised}
+use Rattle.cred_table.proofs.{Stored.written_is, Stored.counter_is, Stored.Lawful-raised}
 use Rattle.cred_table.proofs.listed.ListedTable.raise.Goals as goal
 
 pub overflow_add-row : goal.overflow_add-row

@@ -1,6 +1,6 @@
 use Rattle.std.proofs.Common.{arith, sym, ◌∙◌, subst, List}
 use Rattle.cred_table.specs.{declared.row.Row.Row, Rows.is_user, Rows.ValidRows}
-use Rattle.cred_table.proofs.Places.{replaced_rows, id_found, replaced_is, Lawful-replace}
+use Rattle.cred_table.proofs.Stored.{replaced_rows, id_found, replaced_is, Lawful-replace}
 use Rattle.cred_table.proofs.listed.ListedTable.replace.Goals as goal
 
 pub place-place-requires : goal.place-place-requires

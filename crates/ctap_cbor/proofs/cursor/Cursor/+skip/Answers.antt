@@ -1,8 +1,8 @@
 use Rattle.std.proofs.Common.{arith, subst, ◌≡◌, ◌+◌, ◌-◌}
 use Rattle.std.specs.Option.{option_copied}
 use Rattle.ctap_cbor.specs.{Views.to_part, Reading.PassesAll, Reading.PassesPairs}
-use Rattle.ctap_cbor.proofs.{Moves.passes_none, Moves.passes_more, Moves.pairs_none, Only.only_halts, Only.only_matches}
-use Rattle.ctap_cbor.proofs.Skipping.{array_whole, array_stops, map_whole, map_stops, plain_passes, given_more, item_stops, key_stops, value_stops}
+use Rattle.ctap_cbor.proofs.{Moves.passes_none, Moves.passes_more, Moves.pairs_none, Parsing.only_halts, Parsing.only_matches}
+use Rattle.ctap_cbor.proofs.Moves.{array_whole, array_stops, map_whole, map_stops, plain_passes, given_more, item_stops, key_stops, value_stops}
 use Rattle.ctap_cbor.proofs.cursor.Cursor.+skip.Goals as goal
 
 -- ---- an item

@@ -1,6 +1,6 @@
 use Rattle.std.proofs.Common.{◌-◌, ◌≡◌, ap, subst, Err}
-use Rattle.ctap_cbor.specs.{Views.to_part, Faults.AnItem, Parts.read}
-use Rattle.ctap_cbor.proofs.{Taking.item_taken, Taking.item_refused, Taking.read_taken, Only.item_only, Only.item_never}
+use Rattle.ctap_cbor.specs.{Views.to_part, Items.AnItem, Items.read}
+use Rattle.ctap_cbor.proofs.{Cursors.item_taken, Cursors.item_refused, Cursors.read_taken, Parsing.item_only, Parsing.item_never}
 use Rattle.ctap_cbor.proofs.cursor.Cursor.item.Goals as goal
 
 pub returns-in-Ok : goal.returns-in-Ok

@@ -1,8 +1,8 @@
 use Rattle.std.proofs.Common.{arith, ap, take, ◌≡◌, ◌∙◌}
 use Rattle.std.specs.Option.{option_copied}
-use Rattle.ctap_cbor.specs.{Views.to_part, Reading.comparison_steps, Faults.AKey, Faults.is_above}
+use Rattle.ctap_cbor.specs.{Views.to_part, Reading.comparison_steps, Items.AKey, Items.is_above}
 use Rattle.ctap_cbor.proofs.cursor.Cursor.key.Goals.{in-None, in-Some}
-use Rattle.ctap_cbor.proofs.Keys.{key_taken, key_below, key_refused, key_given, key_not_given}
+use Rattle.ctap_cbor.proofs.Cursors.{key_taken, key_below, key_refused, key_given, key_not_given}
 use Rattle.ctap_cbor.proofs.cursor.Cursor.key.Goals as goal
 
 pub returns-then-is_above-clause-gives : goal.returns-then-is_above-clause-gives

@@ -1,5 +1,5 @@
 use Rattle.std.proofs.Common.{refl, arith}
-use Rattle.ctap_cbor.proofs.Appending.{spliced}
+use Rattle.ctap_cbor.proofs.Written.{spliced}
 use Rattle.ctap_cbor.proofs.sink.Sink.extend.Goals as goal
 
 pub returns-clause-appends : goal.returns-clause-appends

@@ -1,8 +1,8 @@
 use Rattle.std.proofs.Common.{arith, ◌-◌}
 use Rattle.ctap_cbor.specs.Views.{to_part, head_tree}
-use Rattle.ctap_message.{specs.Descriptors.descriptor_types, specs.Fields.descriptor_in, proofs.Collecting.adds_head}
+use Rattle.ctap_message.{specs.Members.descriptor_types, specs.Fields.descriptor_in, proofs.Collecting.adds_head}
 use Rattle.ctap_message.specs.Collected.{to_descriptor, descriptor_next}
-use Rattle.ctap_message.proofs.Growing.{descriptor_grows, descriptor_heads, transports_arm}
+use Rattle.ctap_message.proofs.Collecting.{descriptor_grows, descriptor_heads, transports_arm}
 use Rattle.ctap_message.proofs.descriptor.DescriptorMembers.member.Goals as goal
 
 pub returns-in-Text-transports : goal.returns-in-Text-transports

@@ -1,7 +1,7 @@
 use Rattle.std.proofs.Common.{◌-◌, ◌&&◌, refl, ap}
-use Rattle.ctap_message.specs.{Members.map_of, Descriptors.descriptor_types}
+use Rattle.ctap_message.specs.{Members.map_of, Members.descriptor_types}
 use Rattle.ctap_message.specs.Collected.{to_descriptor, listing_in, to_list_summary}
-use Rattle.ctap_message.proofs.{Collecting.adds_entry, Listing.listing_more}
+use Rattle.ctap_message.proofs.{Collecting.adds_entry, Requests.listing_more}
 use Rattle.ctap_message.proofs.descriptor.ListSummaryEntries.entry.Goals as goal
 
 pub returns : goal.returns

@@ -1,6 +1,6 @@
 use Rattle.std.{proofs.Common.◌-◌, proofs.Common.sym, proofs.Common.ap, proofs.Common.◌∙◌, specs.Prelude.is_some}
 use Rattle.ctap_cbor.specs.Views.{to_part}
-use Rattle.ctap_message.proofs.{Naming.copied_some, Growing.texts_more}
+use Rattle.ctap_message.proofs.{Requests.copied_some, Collecting.texts_more}
 use Rattle.ctap_message.proofs.descriptor.TextStringsEntries.entry.Goals as goal
 
 pub returns : goal.returns

@@ -1,6 +1,6 @@
 use Rattle.std.proofs.Common.{Ok, subst}
 use Rattle.ctap_cbor.specs.{Reading.TakesItem, Views.to_part, Views.ReadsItem}
-use Rattle.ctap_message.proofs.Naming.{begins, no_fault, no_other}
+use Rattle.ctap_message.proofs.Requests.{begins, no_fault, no_other}
 use Rattle.ctap_message.proofs.descriptors.Descriptors.from_entries.Goals as goal
 
 pub unreachable-requires : goal.unreachable-requires

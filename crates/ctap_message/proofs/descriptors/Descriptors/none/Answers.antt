@@ -1,5 +1,5 @@
 use Rattle.std.proofs.Common.{refl, []}
-use Rattle.ctap_message.proofs.Naming.{no_list}
+use Rattle.ctap_message.proofs.Requests.{no_list}
 use Rattle.ctap_message.proofs.descriptors.Descriptors.none.Goals as goal
 
 pub invariant_of-result : goal.invariant_of-result

@@ -1,7 +1,7 @@
 use Rattle.std.proofs.Common.{◌≡◌, sym, ◌∙◌, arith}
 use Rattle.std.specs.Option.{option_copied}
 use Rattle.ctap_message.specs.{Collected.to_descriptor}
-use Rattle.ctap_message.proofs.Naming.{sofar_more, gives_some, gives_none, entry_never, copied_some, none_is}
+use Rattle.ctap_message.proofs.Requests.{sofar_more, gives_some, gives_none, entry_never, copied_some, none_is}
 use Rattle.ctap_message.proofs.descriptors.DescriptorsIterator.next.Goals as goal
 
 pub unreachable-requires : goal.unreachable-requires

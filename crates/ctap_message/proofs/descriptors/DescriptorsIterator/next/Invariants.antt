@@ -1,5 +1,5 @@
 use Rattle.std.proofs.Common.{◌≡◌, ◌≤◌}
-use Rattle.ctap_message.proofs.Naming.{Sofar}
+use Rattle.ctap_message.proofs.Requests.{Sofar}
 use Rattle.ctap_message.proofs.descriptors.DescriptorsIterator.next.Given as goal
 
 abbrev pub invariant-loop-self : goal.invariant-loop-self

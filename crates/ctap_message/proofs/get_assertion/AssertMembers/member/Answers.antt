@@ -1,12 +1,12 @@
 use Rattle.std.proofs.Common.{◌-◌, refl, sym, ap, ◌∙◌, arith, rules}
 use Rattle.std.specs.Prelude.{is_some, pos}
 use Rattle.ctap_cbor.specs.{Tree.Int, Views.to_part}
-use Rattle.ctap_message.specs.{Walks.typed, Members.map_of, Members.array_of, GetAssertion.assertion_types}
-use Rattle.ctap_message.specs.{Descriptors.descriptor_types, Descriptors.option_types, Fields.options_in}
+use Rattle.ctap_message.specs.{Collected.typed, Members.map_of, Members.array_of, Requests.assertion_types}
+use Rattle.ctap_message.specs.{Members.descriptor_types, Members.option_types, Fields.options_in}
 use Rattle.ctap_message.specs.Collected.{to_options, to_descriptor_list, list_in}
-use Rattle.ctap_message.specs.CollectedRequests.{parameter_key, to_assertion_parameters, assertion_in, assert_next}
-use Rattle.ctap_message.proofs.{Naming.copied_some, Collecting.maps_read, Collecting.adds_read, Collecting.adds_put}
-use Rattle.ctap_message.proofs.Growing.{options_start, assert_grows, assert_heads, assert_other}
+use Rattle.ctap_message.specs.Collected.{parameter_key, to_assertion_parameters, assertion_in, assert_next}
+use Rattle.ctap_message.proofs.{Requests.copied_some, Collecting.maps_read, Collecting.adds_read, Collecting.adds_put}
+use Rattle.ctap_message.proofs.Collecting.{options_start, assert_grows, assert_heads, assert_other}
 use Rattle.ctap_message.proofs.get_assertion.AssertMembers.member.Goals as goal
 
 pub returns-in-Int-eq3 : goal.returns-in-Int-eq3

@@ -1,15 +1,15 @@
 use Rattle.std.proofs.Common.{◌-◌, true, refl, sym, ap, ◌∙◌, arith, rules}
 use Rattle.std.specs.Prelude.{is_some, pos}
 use Rattle.ctap_cbor.specs.{Tree.Int, Views.to_part}
-use Rattle.ctap_message.specs.{Walks.typed, Members.map_of, Members.array_of}
-use Rattle.ctap_message.specs.MakeCredential.{rp_types, user_types, make_types}
-use Rattle.ctap_message.specs.Descriptors.{parameter_types, descriptor_types, option_types}
+use Rattle.ctap_message.specs.{Collected.typed, Members.map_of, Members.array_of}
+use Rattle.ctap_message.specs.Requests.{rp_types, user_types, make_types}
+use Rattle.ctap_message.specs.Members.{parameter_types, descriptor_types, option_types}
 use Rattle.ctap_message.specs.Fields.{rp_in, user_in, parameters_in, options_in}
 use Rattle.ctap_message.specs.Collected.{to_rp, to_user, to_parameters, to_options, to_descriptor_list, list_in}
-use Rattle.ctap_message.specs.CollectedRequests.{parameter_key, to_make_parameters, make_in, make_next}
-use Rattle.ctap_message.proofs.{Naming.copied_some, Collecting.maps_read, Collecting.arrays_read, Collecting.adds_read}
-use Rattle.ctap_message.proofs.{Collecting.adds_put, Growing.rp_start, Growing.user_start, Growing.options_start}
-use Rattle.ctap_message.proofs.Growing.{parameters_start, make_grows, make_heads, make_other}
+use Rattle.ctap_message.specs.Collected.{parameter_key, to_make_parameters, make_in, make_next}
+use Rattle.ctap_message.proofs.{Requests.copied_some, Collecting.maps_read, Collecting.arrays_read, Collecting.adds_read}
+use Rattle.ctap_message.proofs.{Collecting.adds_put, Collecting.rp_start, Collecting.user_start, Collecting.options_start}
+use Rattle.ctap_message.proofs.Collecting.{parameters_start, make_grows, make_heads, make_other}
 use Rattle.ctap_message.proofs.make_credential.MakeMembers.member.Goals as goal
 
 pub returns-in-Int-eq2 : goal.returns-in-Int-eq2

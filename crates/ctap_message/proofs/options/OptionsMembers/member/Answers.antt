@@ -1,6 +1,6 @@
 use Rattle.std.proofs.Common.{◌-◌, true, rules}
 use Rattle.ctap_cbor.specs.Views.{to_part}
-use Rattle.ctap_message.proofs.Growing.{options_adds}
+use Rattle.ctap_message.proofs.Collecting.{options_adds}
 use Rattle.ctap_message.proofs.options.OptionsMembers.member.Goals as goal
 
 pub returns-in-Text-rk : goal.returns-in-Text-rk

@@ -1,6 +1,6 @@
 use Rattle.std.proofs.Common.{◌-◌, true, rules}
 use Rattle.ctap_cbor.specs.Views.{to_part}
-use Rattle.ctap_message.proofs.Growing.{parameter_adds}
+use Rattle.ctap_message.proofs.Collecting.{parameter_adds}
 use Rattle.ctap_message.proofs.parameters.ParameterMembers.member.Goals as goal
 
 pub returns-in-Text-alg : goal.returns-in-Text-alg

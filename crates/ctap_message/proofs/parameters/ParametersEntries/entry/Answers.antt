@@ -1,9 +1,9 @@
 use Rattle.std.proofs.Common.{◌≡◌, ◌-◌, ◌&&◌, ◌||◌, refl, ap, rules}
-use Rattle.ctap_message.specs.{Members.map_of, Descriptors.parameter_types}
+use Rattle.ctap_message.specs.{Members.map_of, Members.parameter_types}
 use Rattle.ctap_message.specs.Fields.{parameter_in, is_whole_parameter, is_for_es256, parameters_in}
 use Rattle.ctap_message.specs.Collected.{to_parameter, to_parameters}
 use Rattle.ctap_message.proofs.Collecting.{adds_entry, map_read}
-use Rattle.ctap_message.proofs.Growing.{parameter_start, parameters_more}
+use Rattle.ctap_message.proofs.Collecting.{parameter_start, parameters_more}
 use Rattle.ctap_message.proofs.parameters.ParametersEntries.entry.Goals as goal
 use Rattle.ctap_message.proofs.parameters.ParametersEntries.entry.Goals.{then-is_some, else-is_some, then-eq, else-eq}
 

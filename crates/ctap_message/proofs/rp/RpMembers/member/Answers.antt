@@ -1,6 +1,6 @@
 use Rattle.std.proofs.Common.{◌-◌, true, rules}
 use Rattle.ctap_cbor.specs.Views.{to_part}
-use Rattle.ctap_message.proofs.Growing.{rp_adds}
+use Rattle.ctap_message.proofs.Collecting.{rp_adds}
 use Rattle.ctap_message.proofs.rp.RpMembers.member.Goals as goal
 
 pub returns-in-Text-id : goal.returns-in-Text-id

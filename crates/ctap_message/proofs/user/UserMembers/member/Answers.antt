@@ -1,6 +1,6 @@
 use Rattle.std.proofs.Common.{◌-◌, true, rules}
 use Rattle.ctap_cbor.specs.Views.{to_part}
-use Rattle.ctap_message.proofs.Growing.{user_adds}
+use Rattle.ctap_message.proofs.Collecting.{user_adds}
 use Rattle.ctap_message.proofs.user.UserMembers.member.Goals as goal
 
 pub returns-in-Text-id : goal.returns-in-Text-id

@@ -1,5 +1,5 @@
 use Rattle.std.proofs.Common.{subst, sym}
-use Rattle.hid_assemble.{specs.Assembly.IsValidAssembly, proofs.Lawful.stays_lawful}
+use Rattle.hid_assemble.{specs.Assembly.IsValidAssembly, proofs.Rows.stays_lawful}
 use Rattle.hid_assemble.proofs.assembler.Assembler.accept.Goals as goal
 
 pub returns-in-Start-clause-lawful : goal.returns-in-Start-clause-lawful

@@ -1,6 +1,6 @@
 use Rattle.std.proofs.Common.{◌≡◌, length, subst, sym, ◌∙◌, arith}
-use Rattle.hid_assemble.{specs.Table.init_packet_row, proofs.Says.RowSays, proofs.Says.row_says}
-use Rattle.hid_assemble.proofs.Keeping.{given-is, one_more, short_state, long_state}
+use Rattle.hid_assemble.{specs.Table.init_packet_row, proofs.Rows.RowSays, proofs.Rows.row_says}
+use Rattle.hid_assemble.proofs.Receiving.{given-is, one_more, short_state, long_state}
 use Rattle.hid_assemble.proofs.assembler.Assembler.accept_initialization.Goals as goal
 
 pub invariant_of-self : goal.invariant_of-self

@@ -1,5 +1,5 @@
 use Rattle.std.proofs.{Common.ap, Common.arith, Common.rules, Common.length, lemmas.Bool.Decides.nat_tests}
-use Rattle.hid_packet.proofs.Writing.{first_taken, next_taken, none_taken}
+use Rattle.hid_packet.proofs.MessagePackets.{first_taken, next_taken, none_taken}
 use Rattle.hid_packet.proofs.fragments.FragmentsIterator.next.Goals as goal
 
 pub returns-in-Initialization-clause-steps : goal.returns-in-Initialization-clause-steps

@@ -1,7 +1,7 @@
 use Rattle.std.proofs.Common.{◌≡◌, ◌+◌, ◌≤◌, ◌++◌, ◌∷◌, [], List, ℕ, length, ap, ap₂, sym, ◌∙◌, refl, rules, arith}
 use Rattle.std.proofs.Common.{length-append}
 use Rattle.hid_packet.specs.Message.{message_packets, initialization_packet}
-use Rattle.hid_packet.{proofs.Writing.filled, specs.Queue.queued_packets}
+use Rattle.hid_packet.{proofs.MessagePackets.filled, specs.Queue.queued_packets}
 use Rattle.hid_packet.specs.declared.{queued.Queued.TheVariants.Part, fragments.NextPacket.TheVariants.Initialization}
 use Rattle.hid_packet.proofs.Queueing.{first_written, short_written, queued-push, space, queued_packets-push, entry_fills}
 use Rattle.hid_packet.proofs.outbox.Outbox.put_message.Goals as goal

@@ -1,5 +1,5 @@
 use Rattle.std.proofs.Common.{◌≡◌, ◌∙◌, ◌∷◌, ℕ, List, length, ap, ap₂, sym, arith, rules}
-use Rattle.hid_packet.specs.{Remaining.packets_left, Queue.queued_packets}
+use Rattle.hid_packet.specs.{Message.packets_left, Queue.queued_packets}
 use Rattle.hid_packet.specs.declared.queued.Queued.TheVariants.{Whole, Part}
 use Rattle.hid_packet.proofs.Queueing.{bounds, first_of, no_entry, none_wait, queued-pop, queued_packets-pop, held-pop, held-more, held-last, part_more, part_last, first_set}
 use Rattle.hid_packet.proofs.outbox.OutboxIterator.next.Goals as goal

@@ -2,7 +2,7 @@ use Rattle.std.proofs.Common.{◌≤◌, ◌∙◌, ◌+◌, ◌-◌, ◌++◌, 
 use Rattle.std.proofs.Common.{length-take-le}
 use Rattle.byteorder.specs.Endian.{big_bytes}
 use Rattle.hid_packet.specs.Message.{initialization_packet, continuation_packet}
-use Rattle.hid_packet.proofs.{Making.placed, Making.first_made, Making.next_made, Writing.no_continuation}
+use Rattle.hid_packet.proofs.{Queueing.placed, Queueing.first_made, Queueing.next_made, MessagePackets.no_continuation}
 use Rattle.hid_packet.proofs.queued.QueuedMessage.next_packet.Goals as goal
 
 pub returns-in-Initialization-clause-packet : goal.returns-in-Initialization-clause-packet

@@ -1,6 +1,6 @@
 use Rattle.std.proofs.Common.{◌+◌, ◌-◌, ◌%◌, length, ap₂, refl, ◌∙◌, arith, rules}
 use Rattle.hid_packet.specs.Queue.{with_overwritten}
-use Rattle.hid_packet.proofs.Filling.{part_put, put_around, straight_put, round_put}
+use Rattle.hid_packet.proofs.Queueing.{part_put, put_around, straight_put, round_put}
 use Rattle.hid_packet.proofs.ring.RingBuffer.put.Goals as goal
 
 pub returns-then-bytes-straight : goal.returns-then-bytes-straight

@@ -1,5 +1,5 @@
 use Rattle.std.proofs.Common.{◌-◌, length, ◌∙◌, arith, rules}
-use Rattle.hid_packet.{proofs.Filling.window-front, proofs.Filling.window-rest}
+use Rattle.hid_packet.{proofs.Queueing.window-front, proofs.Queueing.window-rest}
 use Rattle.hid_packet.proofs.ring.RingBuffer.take.Goals as goal
 
 pub returns-then-len-straight-clause-taken : goal.returns-then-len-straight-clause-taken

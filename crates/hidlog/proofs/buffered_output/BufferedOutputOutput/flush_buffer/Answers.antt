@@ -1,6 +1,6 @@
 use Rattle.std.proofs.Common.{drop, take, subst, ap, ◌∙◌}
 use Rattle.std.specs.Io.KnownBytes.{Appends}
-use Rattle.hidlog.proofs.Unread.{handed}
+use Rattle.hidlog.proofs.Compared.{handed}
 use Rattle.hidlog.proofs.buffered_output.BufferedOutputOutput.flush_buffer.Goals as goal
 
 pub waiting-preserved : goal.waiting-preserved

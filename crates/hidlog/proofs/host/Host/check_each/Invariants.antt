@@ -1,5 +1,5 @@
 use Rattle.std.proofs.Common.{◌≡◌, ◌⊎◌, ◌<◌, true, false, take}
-use Rattle.hidlog.specs.{CommandLine.to_path, CommandLine.to_texts, Model.Model, Several.AreSame, Several.HasFailure}
+use Rattle.hidlog.specs.{CommandLine.to_path, CommandLine.to_texts, Program.Model, Commands.AreSame, Commands.HasFailure}
 use Rattle.hidlog.proofs.host.Host.check_each.Given as goal
 
 -- what is said of the host

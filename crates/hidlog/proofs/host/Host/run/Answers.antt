@@ -1,7 +1,7 @@
 use Rattle.std.proofs.Common.{inl, sym}
 use Rattle.clap.specs.Words.{kind_of}
-use Rattle.hidlog.specs.{CommandLine.task_and_verbosity, CommandLine.to_texts, Fault.to_result}
-use Rattle.hidlog.proofs.Asked.{done, unasked}
+use Rattle.hidlog.specs.{CommandLine.task_and_verbosity, CommandLine.to_texts, Program.to_result}
+use Rattle.hidlog.proofs.CommandLine.{done, unasked}
 use Rattle.hidlog.proofs.host.Host.run.Goals as goal
 
 pub returns-in-Err-clause-answered : goal.returns-in-Err-clause-answered

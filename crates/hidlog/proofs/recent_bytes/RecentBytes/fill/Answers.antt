@@ -1,5 +1,5 @@
 use Rattle.std.proofs.Common.{rules, arith, ◌+◌, ◌≤◌, length}
-use Rattle.hidlog.proofs.Unread.{none_read, read_after}
+use Rattle.hidlog.proofs.Compared.{none_read, read_after}
 use Rattle.hidlog.proofs.recent_bytes.RecentBytes.fill.Goals as goal
 
 pub returns-clause-bytes : goal.returns-clause-bytes

@@ -1,6 +1,6 @@
 use Rattle.std.proofs.Common.{◌≡◌, ◌∙◌, ap, refl, subst, List, ℕ, []}
 use Rattle.token_session.specs.Meters.{IsStateAfterValidStart}
-use Rattle.hidlog_c.specs.{Key.DeviceState, Switched.start_of}
+use Rattle.hidlog_c.specs.{Key.DeviceState, Key.start_of}
 use Rattle.hidlog_c.proofs.device.Device.load.Goals as goal
 
 pub returns-clause-started : goal.returns-clause-started

@@ -1,6 +1,6 @@
 use Rattle.std.proofs.Common.{ℕ, List, Some, to_z, w32, subst}
-use Rattle.hidlog_c.specs.{declared.outcome.CResult.CResult, Key.DeviceState, Key.no_causes, Lines.PlaysOn}
-use Rattle.hidlog_c.proofs.Kept.{plays_on, status_as}
+use Rattle.hidlog_c.specs.{declared.outcome.CResult.CResult, Key.DeviceState, Key.no_causes, Commands.PlaysOn}
+use Rattle.hidlog_c.proofs.Written.{plays_on, status_as}
 use Rattle.hidlog_c.proofs.device.Device.play.Goals as goal
 
 pub returns : goal.returns

@@ -1,5 +1,5 @@
 use Rattle.std.proofs.{Common.arith, Common.inl, Common.w32, lemmas.Int.to_z_pos}
-use Rattle.hidlog_c.{proofs.Kept.saves_len, specs.declared.capacity.TheConstants.SNAPSHOT_MAX_LEN}
+use Rattle.hidlog_c.{proofs.Written.saves_len, specs.declared.capacity.TheConstants.SNAPSHOT_MAX_LEN}
 use Rattle.hidlog_c.proofs.device.Device.save.Goals as goal
 
 pub returns : goal.returns

@@ -2,7 +2,7 @@ use Rattle.std.proofs.Common.{◌+◌, Option, refl, ap}
 use Rattle.hid_packet.specs.declared.packet.Packet.{Packet}
 use Rattle.session_log.specs.Check.{check_machine, due_packets, missing_of}
 use Rattle.session_log.specs.declared.fault.LogFault.TheVariants.{Differs}
-use Rattle.session_log.proofs.{Compares.at_most, Compares.standing, Puts.closes_at, Puts.closes_by}
+use Rattle.session_log.proofs.{Groups.at_most, Groups.standing, Groups.closes_at, Groups.closes_by}
 use Rattle.session_log.proofs.check_player.CheckPlayerPlayer.finish.Goals as goal
 
 pub returns-in-Some : goal.returns-in-Some

@@ -1,10 +1,10 @@
 use Rattle.std.proofs.Common.{◌≡◌, ◌+◌, ℕ, Option, Some, refl, ap, sym, ◌∙◌}
 use Rattle.hid_packet.specs.declared.packet.Packet.{Packet}
 use Rattle.session_log.specs.Check.{check_machine, log_comparison, due_packets, missing_of, comparison_after}
-use Rattle.session_log.specs.{Session.session_semantics, declared.fault.LogFault.TheVariants.Differs}
+use Rattle.session_log.specs.{Replay.session_semantics, declared.fault.LogFault.TheVariants.Differs}
 use Rattle.session_log.specs.declared.line.Line.TheVariants.{Input, Sent}
-use Rattle.session_log.proofs.Compares.{begins, is_due, is_next, is_other, is_silent, not_full, passes, rises, standing}
-use Rattle.session_log.proofs.{Compares.stays, Puts.differs_for, Puts.writes_none}
+use Rattle.session_log.proofs.Groups.{begins, is_due, is_next, is_other, is_silent, not_full, passes, rises, standing}
+use Rattle.session_log.proofs.{Groups.stays, Groups.differs_for, Groups.writes_none}
 use Rattle.session_log.proofs.check_player.CheckPlayerPlayer.play.Goals as goal
 
 pub returns-then-ne : goal.returns-then-ne

@@ -1,5 +1,5 @@
 use Rattle.std.proofs.Common.{arith}
-use Rattle.session_log.{specs.Session.history, specs.Session.live_history, proofs.Commands.plays_unmetered}
+use Rattle.session_log.{specs.Replay.history, specs.Replay.live_history, proofs.Groups.plays_unmetered}
 use Rattle.session_log.proofs.command.ReplayMode.play.Goals as goal
 
 pub returns-in-Replay : goal.returns-in-Replay

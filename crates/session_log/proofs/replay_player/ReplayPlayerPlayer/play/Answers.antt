@@ -1,7 +1,7 @@
 use Rattle.std.proofs.Common.{◌≡◌, Some, flat_map, ◌++◌, refl, ◌∙◌, ap, subst}
-use Rattle.session_log.specs.{Session.machine, Parsed.parsed, Text.ArePackets, Text.sent_text}
+use Rattle.session_log.specs.{Replay.machine, Grammar.parsed, World.ArePackets, World.sent_text}
 use Rattle.session_log.specs.declared.line.Line.TheVariants.{Comment, Input}
-use Rattle.session_log.proofs.Puts.{drops, fits_ended, writes_for}
+use Rattle.session_log.proofs.Groups.{drops, fits_ended, writes_for}
 use Rattle.session_log.proofs.replay_player.ReplayPlayerPlayer.play.Goals as goal
 
 pub returns-in-Input : goal.returns-in-Input

@@ -1,5 +1,5 @@
 use Rattle.std.proofs.Common.{◌∙◌, sym}
-use Rattle.session_show.proofs.Lines.{broken_line}
+use Rattle.session_show.proofs.Told.{broken_line}
 use Rattle.session_show.proofs.log_writer.LogWriter.write_next_line.Goals as goal
 
 pub returns-in-Err-put_with_line_number-clause-shown : goal.returns-in-Err-put_with_line_number-clause-shown

@@ -1,5 +1,5 @@
 use Rattle.std.proofs.Common.{arith}
-use Rattle.session_walk.proofs.Sooner.{kept, taken}
+use Rattle.session_walk.proofs.Keeps.{kept, taken}
 use Rattle.session_walk.proofs.channels.Channels.oldest.Goals as goal
 use Rattle.session_walk.proofs.channels.Channels.oldest.Goals.{then-is_evicted_before, else-is_evicted_before}
 

@@ -1,6 +1,6 @@
 use Rattle.session_walk.specs.Lines.{KeepsAll}
 use Rattle.session_walk.specs.Messages.{KeepsOnly}
-use Rattle.session_walk.specs.Completed.{EndsNothing}
+use Rattle.session_walk.specs.Lines.{EndsNothing}
 use Rattle.session_walk.proofs.tracker.TransactionTracker.clear.Given as goal
 
 abbrev pub invariant-loop-ended : goal.invariant-loop-ended

@@ -1,5 +1,5 @@
 use Rattle.std.proofs.Common.{arith}
-use Rattle.token_session.specs.{Machine.response_sends_keepalive, Replies.answer_packets}
+use Rattle.token_session.specs.{Machine.response_sends_keepalive, Machine.answer_packets}
 use Rattle.token_session.proofs.authenticator_state.AuthenticatorState.send.Goals as goal
 
 pub put_message-requires-clause-space : goal.put_message-requires-clause-space

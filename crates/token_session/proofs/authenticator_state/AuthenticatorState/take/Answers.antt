@@ -1,6 +1,6 @@
 use Rattle.std.proofs.Common.{◌≡◌, Some, None, refl, append-nil, arith}
 use Rattle.authn_core.specs.Views.{to_event}
-use Rattle.token_session.specs.{Replies.answer_packets, Machine.response_sends_keepalive, Effects.request_in}
+use Rattle.token_session.specs.{Machine.answer_packets, Machine.response_sends_keepalive, Machine.request_in}
 use Rattle.token_session.{specs.Meters.counted, proofs.Metering.counted_bounded}
 use Rattle.token_session.proofs.Sizes.{core_held, table_held}
 use Rattle.token_session.proofs.authenticator_state.AuthenticatorState.take.Goals as goal

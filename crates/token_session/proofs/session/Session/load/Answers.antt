@@ -1,7 +1,7 @@
 use Rattle.std.proofs.Common.{ap, arith}
 use Rattle.authn_core.specs.Turn.{CoreContents}
 use Rattle.token_session.specs.{History.received, Machine.start_state}
-use Rattle.token_session.proofs.{Metering.begins, Metering.bounded_first, Passing.whole, Serving.at_most}
+use Rattle.token_session.proofs.{Metering.begins, Metering.bounded_first, Follows.whole, Follows.at_most}
 use Rattle.token_session.proofs.Sizes.{core_within, table_within}
 use Rattle.token_session.proofs.session.Session.load.Goals as goal
 

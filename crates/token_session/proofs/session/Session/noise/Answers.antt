@@ -1,6 +1,6 @@
 use Rattle.std.proofs.Common.{ap, ◌∙◌}
 use Rattle.token_session.specs.Meters.{SessionState}
-use Rattle.token_session.proofs.{Noise.noise_now, Noise.noise_is_named, Metering.machine_after}
+use Rattle.token_session.proofs.{Metering.noise_now, Metering.noise_is_named, Metering.machine_after}
 use Rattle.token_session.proofs.session.Session.noise.Goals as goal
 
 pub returns-clause-state : goal.returns-clause-state

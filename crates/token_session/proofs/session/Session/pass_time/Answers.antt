@@ -1,8 +1,8 @@
 use Rattle.std.proofs.Common.{◌≡◌, ◌≤◌, ℕ, [], ◌∷◌, ap, arith, length, refl, sym, ◌∙◌}
-use Rattle.hid_packet.proofs.Carrying.{few_written}
+use Rattle.hid_packet.proofs.MessagePackets.{few_written}
 use Rattle.token_session.specs.Meters.{SessionState}
-use Rattle.token_session.specs.Events.{keepalive_due}
-use Rattle.token_session.proofs.Passing.{due, early, due_passed, late_passed, quiet_passed, never, stays, none_dropped}
+use Rattle.token_session.specs.Machine.{keepalive_due}
+use Rattle.token_session.proofs.Follows.{due, early, due_passed, late_passed, quiet_passed, never, stays, none_dropped}
 use Rattle.token_session.proofs.Sizes.{core_within, table_within}
 use Rattle.token_session.proofs.session.Session.pass_time.Goals as goal
 

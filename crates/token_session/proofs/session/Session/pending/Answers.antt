@@ -1,5 +1,5 @@
 use Rattle.std.proofs.Common.{ap, ◌∙◌}
-use Rattle.cred_table.specs.Waiting.{pending_count}
+use Rattle.cred_table.specs.Rows.{pending_count}
 use Rattle.token_session.specs.Meters.{SessionState}
 use Rattle.token_session.proofs.Sizes.{core_within, table_within}
 use Rattle.token_session.proofs.session.Session.pending.Goals as goal

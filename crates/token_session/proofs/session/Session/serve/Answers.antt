@@ -1,7 +1,7 @@
 use Rattle.std.proofs.Common.{Some, refl, arith}
 use Rattle.authn_core.specs.State.{PresenceIs, KeyIs, SignatureIs}
 use Rattle.token_session.specs.Meters.{counted}
-use Rattle.token_session.proofs.{Few.event_few, Sizes.keeper_within}
+use Rattle.token_session.proofs.{Carrying.event_few, Sizes.keeper_within}
 use Rattle.token_session.proofs.session.Session.serve.Goals as goal
 
 pub take-requires : goal.take-requires

@@ -1,12 +1,12 @@
 use Rattle.std.specs.Option.{option_or}
-use Rattle.token_session.specs.Causes.{verdict_cause}
+use Rattle.token_session.specs.History.{verdict_cause}
 use Rattle.std.proofs.Common.{◌≡◌, [], ◌∷◌, Some, None, refl, sym, ◌∙◌, append-nil, length-append, arith}
 use Rattle.std.proofs.lemmas.Bool.Decides.{nat_tests}
 use Rattle.authn_core.specs.State.{Request, Cancel, Drop}
 use Rattle.hid_assemble.specs.declared.verdict.Verdict.TheVariants.{Finished, Refuse, Greet, GreetAndDrop, CancelWork}
-use Rattle.hid_packet.proofs.Carrying.{few_written}
+use Rattle.hid_packet.proofs.MessagePackets.{few_written}
 use Rattle.token_session.specs.declared.input.Input.TheVariants.{Packet}
-use Rattle.token_session.proofs.{Few.event_few, Few.verdict_few, Serving.served_quietly, Serving.served_by}
+use Rattle.token_session.proofs.{Carrying.event_few, Carrying.verdict_few, Follows.served_quietly, Follows.served_by}
 use Rattle.token_session.proofs.Sizes.{core_within, keeper_within, table_within}
 use Rattle.token_session.proofs.session.Session.serve_packet.Goals as goal
 

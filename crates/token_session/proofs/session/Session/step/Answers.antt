@@ -1,11 +1,11 @@
 use Rattle.std.proofs.Common.{◌≡◌, ℕ, ◌≤◌, ◌∷◌, max, refl, ap, ◌∙◌, arith}
-use Rattle.token_session.proofs.{Few.time_few, Few.turn_few, Follows.step_sends, Serving.step_turn}
+use Rattle.token_session.proofs.{Carrying.time_few, Carrying.turn_few, Follows.step_sends, Follows.step_turn}
 use Rattle.token_session.proofs.Answered.{told_now_is}
 use Rattle.token_session.proofs.Metering.{stepped_is, stands_longer, machine_after}
-use Rattle.token_session.specs.{declared.input.Timed.Timed, Effects.request_in, Machine.MachineTurn}
+use Rattle.token_session.specs.{declared.input.Timed.Timed, Machine.request_in, Machine.MachineTurn}
 use Rattle.token_session.specs.Meters.{SessionState, counted}
 use Rattle.token_session.specs.Machine.{time_passed}
-use Rattle.token_session.specs.Causes.{time_cause, input_cause, causes_of, causes_after}
+use Rattle.token_session.specs.History.{time_cause, input_cause, causes_of, causes_after}
 use Rattle.token_session.proofs.Sizes.{core_within, table_within}
 use Rattle.token_session.proofs.session.Session.step.Goals as goal
 
