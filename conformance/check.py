@@ -24,8 +24,6 @@ HERE = os.path.dirname(os.path.abspath(__file__))
 sys.path.insert(0, os.path.join(HERE, "checks"))
 
 NAMES = ("faults", "conforming", "others", "judged", "clients")
-# The modules of checks with an option, by name and option.
-WITH_OPTION = {("judged", "--clients"): "judged_clients", ("clients", "--pin"): "pin_clients"}
 
 
 def main(arguments: List[str]) -> int:
@@ -34,9 +32,9 @@ def main(arguments: List[str]) -> int:
     if name not in NAMES:
         print(f"check.py: expected one of {', '.join(NAMES)}, got {name!r}", file=sys.stderr)
         return 2
-    module = next((found for (first, option), found in WITH_OPTION.items() if name == first and option in more), name)
-    chosen = [word for word in more if (name, word) not in WITH_OPTION]
-    return int(importlib.import_module(module).main(chosen))
+    if name == "judged" and "--clients" in more:
+        name = "judged_clients"
+    return int(importlib.import_module(name).main(more))
 
 
 if __name__ == "__main__":

@@ -15,7 +15,7 @@ import sys
 from typing import Dict, List, Tuple
 
 from hidlog_conformance.cases.all_cases import build_session_texts, write_sessions
-from hidlog_conformance.cases.sentence_table import format_sentence_table
+from hidlog_conformance.cases.sentences import format_sentence_table
 from hidlog_conformance.client_runner import client_sessions
 
 HERE = os.path.dirname(os.path.abspath(__file__))

@@ -20,7 +20,7 @@ from variant_list import VARIANTS  # noqa: E402
 
 from hidlog_conformance import report  # noqa: E402
 from hidlog_conformance.device_info import DeviceInfo  # noqa: E402
-from hidlog_conformance.outcome import Outcome  # noqa: E402
+from hidlog_conformance.results import Outcome  # noqa: E402
 from hidlog_conformance.reference.device import ReferenceDevice  # noqa: E402
 from hidlog_conformance.run import all_sessions, play_one, parse_options  # noqa: E402
 from hidlog_conformance.walk import walk  # noqa: E402

@@ -27,7 +27,7 @@ from faulty import Fault, FaultyDevice  # noqa: E402
 from run_mutant import MUTANTS, STATEFUL, run_persistent_mutant, run_mutant, walk_mutant  # noqa: E402
 from hidlog_conformance.devices import LiveDevice  # noqa: E402
 from hidlog_conformance.device_info import DeviceInfo  # noqa: E402
-from hidlog_conformance.outcome import Outcome  # noqa: E402
+from hidlog_conformance.results import Outcome  # noqa: E402
 from hidlog_conformance.player import Player  # noqa: E402
 from cached_device import verify_cached  # noqa: E402
 from hidlog_conformance.run import all_sessions  # noqa: E402

@@ -29,17 +29,16 @@ from wire_faults import WIRE_FAULTS  # noqa: E402
 from hidlog_conformance import hid_packets as hid  # noqa: E402
 from hidlog_conformance.devices import Device, LiveDevice  # noqa: E402
 from hidlog_conformance.judged_log import HOST, KEY, MUST, Finding  # noqa: E402
-from hidlog_conformance.expected_failures import read_list  # noqa: E402
+from hidlog_conformance.report import read_list  # noqa: E402
 from hidlog_conformance.device_info import DeviceInfo  # noqa: E402
-from hidlog_conformance.outcome import Outcome  # noqa: E402
+from hidlog_conformance.results import Outcome  # noqa: E402
 from hidlog_conformance.player import Player  # noqa: E402
-from hidlog_conformance.quantity import quantity  # noqa: E402
+from hidlog_conformance.text import quantity  # noqa: E402
 from hidlog_conformance.reference.device import ReferenceDevice  # noqa: E402
 from hidlog_conformance import run  # noqa: E402
-from hidlog_conformance.answers import Mismatch  # noqa: E402
+from hidlog_conformance.answers import CaseSkipped, Mismatch  # noqa: E402
 from hidlog_conformance.run import all_sessions, play_one, parse_options  # noqa: E402
 from hidlog_conformance.session_file import Session  # noqa: E402
-from hidlog_conformance.skipped import CaseSkipped  # noqa: E402
 from proved_walk import judge  # noqa: E402
 
 FAULTS: Dict[str, Fault] = {fault.name: fault for fault in WIRE_FAULTS + CBOR_FAULTS}

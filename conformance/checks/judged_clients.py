@@ -3,8 +3,8 @@
     conformance/check.py judged --clients     python-fido2, and libfido2 if gcc and its header are installed
 
 A recording of a nonconforming device must have a violation of the session's section, whatever the client did.
-`conformance/judged_clients.known` and `judged_libfido2.known` list the violations that packets do not show, with
-reasons. A recording of a conforming device may have no MUST violation by the key.
+`conformance/judged_clients.known` lists the violations that packets do not show, with reasons; its section libfido2 has
+more for this client. A recording of a conforming device may have no MUST violation by the key.
 """
 
 from __future__ import annotations
@@ -17,8 +17,8 @@ from typing import Dict, List, Tuple
 from clients import compile_client
 from hidlog_conformance.client_runner import client_sessions, play_clients
 from hidlog_conformance.judged_log import KEY, MUST, Finding
-from hidlog_conformance.expected_failures import read_list
-from hidlog_conformance.outcome import Outcome
+from hidlog_conformance.report import read_list
+from hidlog_conformance.results import Outcome
 from hidlog_conformance.paths import CLIENTS
 from proved_walk import judge
 
@@ -73,7 +73,7 @@ def main(arguments: List[str]) -> int:
     with tempfile.TemporaryDirectory() as room:
         program = compile_client(room)
         if program:
-            expected.update(read_list("judged_libfido2.known"))
+            expected.update(read_list("judged_clients.known", "libfido2"))
             wrong += count_detected("libfido2", program, expected)[1]
         else:
             print("libfido2: skipped, gcc or libfido2-dev is missing")

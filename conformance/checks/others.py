@@ -19,9 +19,8 @@ sys.path.insert(0, os.path.join(HERE, "others"))
 
 from hidlog_conformance import report  # noqa: E402
 from hidlog_conformance.devices import Device  # noqa: E402
-from hidlog_conformance.expected_failures import compare_failures  # noqa: E402
 from hidlog_conformance.device_info import DeviceInfo  # noqa: E402
-from hidlog_conformance.outcome import Outcome  # noqa: E402
+from hidlog_conformance.results import Outcome  # noqa: E402
 from python_key import Key  # noqa: E402
 from hidlog_conformance.run import all_sessions, play_one, parse_options  # noqa: E402
 
@@ -90,4 +89,4 @@ def main(words: List[str]) -> int:
     if words == ["--report"]:
         report.write("text", outcomes, {})
         return 0
-    return 0 if compare_failures(KNOWN, outcomes) else 1
+    return 0 if report.compare_failures(KNOWN, outcomes) else 1

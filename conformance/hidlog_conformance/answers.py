@@ -1,16 +1,17 @@
-"""Checks CBOR responses: members, canonical encoding, flags, counters, IDs and signatures."""
+"""Checks CBOR responses (members, canonical encoding, flags, counters, IDs and signatures), responses to CTAPHID_INIT,
+and KEEPALIVEs."""
 
 from __future__ import annotations
 
 import hashlib
 from dataclasses import dataclass, field
 from functools import lru_cache
-from typing import Any, Dict, List, Optional, Tuple
+from typing import Any, Collection, Dict, List, Optional, Tuple
 
-from hidlog_conformance import ctap_cbor, curve, keys
+from hidlog_conformance import ctap_cbor, keys
+from hidlog_conformance import hid_packets as hid
 from hidlog_conformance.certificates import find_certificate_fault
-from hidlog_conformance.quantity import quantity
-from hidlog_conformance.skipped import CaseSkipped
+from hidlog_conformance.text import quantity
 
 UP, UV, BE, BS, AT, ED = 0x01, 0x04, 0x08, 0x10, 0x40, 0x80
 # Reserved flags.
@@ -22,6 +23,11 @@ EARLIER_VERSIONS = ("FIDO_2_0", "FIDO_2_1_PRE")
 # The maximum number of PIN retries, and of built-in user verification retries.
 MAX_RETRIES, MAX_USER_RETRIES = 8, 25
 MAKE, GET, INFO, RESET, NEXT, SELECTION, BLOBS = 0x01, 0x02, 0x04, 0x07, 0x08, 0x0B, 0x0C
+# Capabilities of an INIT response.
+CAPABILITY_WINK, CAPABILITY_CBOR, CAPABILITY_NMSG = 0x01, 0x04, 0x08
+# The prime field of P-256, and the constant of its equation.
+PRIME = 0xFFFFFFFF00000001000000000000000000000000FFFFFFFFFFFFFFFFFFFFFFFF
+EQUATION_CONSTANT = 0x5AC635D8AA3A93E7B3EBBD55769886BC651D06B0CC53B0F63BCE3C3E27D2604B
 
 
 class Mismatch(Exception):
@@ -31,6 +37,10 @@ class Mismatch(Exception):
         super().__init__(expected)
         self.expected = expected
         self.actual = actual
+
+
+class CaseSkipped(Exception):
+    """A case cannot be played against this device; the message has the reason."""
 
 
 @dataclass
@@ -72,6 +82,27 @@ def check(condition: bool, expected: str, actual: Any) -> None:
     """Raises `Mismatch` unless the condition is true."""
     if not condition:
         raise Mismatch(expected, actual if isinstance(actual, str) else ctap_cbor.to_diagnostic(actual))
+
+
+def check_init_response(data: bytes, nonce: bytes, channel: int, allocated: Collection[int]) -> int:
+    """Checks the data of a response to INIT on `channel`; `allocated` are the channels allocated so far. Returns the
+    new one."""
+    check(len(data) == 17, "an INIT response of 17 bytes", quantity(len(data), "byte"))
+    check(data[:8] == nonce, f"the nonce {nonce.hex()}", data[:8])
+    found = int.from_bytes(data[8:12], "big")
+    if channel != hid.BROADCAST:
+        check(found == channel, f"the channel {channel:08x}", f"{found:08x}")
+    else:
+        check(found not in (0, hid.BROADCAST), "a channel that is not reserved", f"{found:08x}")
+        check(found not in allocated, "a new channel", f"{found:08x}")
+    check(data[12] == 2, "protocol version 2", f"version {data[12]}")
+    check(bool(data[16] & CAPABILITY_CBOR), "the capability CBOR", f"capabilities {data[16]:02x}")
+    return found
+
+
+def is_valid_keepalive(data: bytes) -> bool:
+    """Returns whether the data of a KEEPALIVE is one byte, 01 or 02."""
+    return data in (b"\1", b"\2")
 
 
 @lru_cache(maxsize=16)
@@ -150,6 +181,12 @@ def check_extensions(data: bytes, flags: int, words: List[str]) -> Dict[Any, Any
     return dict(found)
 
 
+def is_point(cose: Dict[Any, Any]) -> bool:
+    """Returns whether the coordinates of a COSE key are a point on P-256. Needs no cryptography package."""
+    x, y = int.from_bytes(cose[-2], "big"), int.from_bytes(cose[-3], "big")
+    return x < PRIME and y < PRIME and (y * y - x * x * x + 3 * x - EQUATION_CONSTANT) % PRIME == 0
+
+
 @lru_cache(maxsize=256)
 def read_cose_key(data: bytes) -> Tuple[Dict[int, Any], bytes]:
     """Returns the COSE key of authenticator data, and the bytes after it, with a cache; do not modify the result."""
@@ -165,7 +202,7 @@ def read_cose_key(data: bytes) -> Tuple[Dict[int, Any], bytes]:
         check(
             all(isinstance(key[part], bytes) and len(key[part]) == 32 for part in (-2, -3)), "x and y of 32 bytes", key
         )
-        check(curve.is_point(key), "x and y of a point on P-256", key)
+        check(is_point(key), "x and y of a point on P-256", key)
     if key[3] == -8:
         check(set(key) == {1, 3, -1, -2} and key[1] == 1 and key[-1] == 6, "an OKP key on Ed25519", key)
     return dict(key), data[reader.place :]
@@ -177,7 +214,7 @@ def read_agreement_key(item: Dict[Any, Any]) -> Dict[Any, Any]:
     check(key.get(1) == 2 and key.get(3) == -25 and key.get(-1) == 1, "a key of kty 2, alg -25, crv 1", key)
     check(set(key) == {1, 3, -1, -2, -3}, "only the members 1, 3, -1, -2, -3", key)
     right = all(isinstance(key[part], bytes) for part in (-2, -3))
-    check(right and curve.is_point(key), "a point on P-256", key)
+    check(right and is_point(key), "a point on P-256", key)
     return dict(key)
 
 
@@ -196,7 +233,9 @@ def check_attestation(item: Dict[Any, Any], auth: bytes, cose: Dict[int, Any], c
         check(keys.is_valid_for_certificate(chain[0], alg, auth + client_hash, signature), expected, signature)
     if item[1] != "packed" or "x5c" in statement:
         return
-    check(get_member(statement, "alg", int, "the algorithm") == cose[3], f"alg {cose[3]}, the key's", statement)
+    check(
+        get_member(statement, "alg", int, "the algorithm") == cose[3], f"alg {cose[3]}, as in the public key", statement
+    )
     signature = get_member(statement, "sig", bytes, "the signature")
     check(
         keys.is_valid_signature(cose, auth + client_hash, signature),
@@ -223,7 +262,11 @@ def check_credential_id(credential: bytes, length: int, user: bytes, known: Dict
     check(len(user) < 8 or user not in credential, "a credential ID that does not contain the user ID", credential)
     number = int.from_bytes(credential, "big")
     near = [one.id for one in known.values() if abs(int.from_bytes(one.id, "big") - number) < 2**64]
-    check(not near or len(near[0]) != length, "a credential ID that is not close to an earlier one", credential)
+    check(
+        not near or len(near[0]) != length,
+        "a credential ID that differs from earlier ones by at least 2^64, as integers",
+        credential,
+    )
 
 
 def check_algorithm(cose: Dict[int, Any], asked: Dict[Any, Any], facts: DeviceFacts) -> None:

@@ -7,7 +7,7 @@ import hashlib
 from typing import Any, Dict, List, Optional, Set
 
 from hidlog_conformance.answers import Credential, check, get_member
-from hidlog_conformance.quantity import quantity
+from hidlog_conformance.text import quantity
 
 COUNT, LEFT, RP, RP_HASH, RPS, USER, ID, KEY, CREDENTIALS, PROTECTION, BLOB_KEY = range(1, 12)
 

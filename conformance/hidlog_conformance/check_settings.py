@@ -7,9 +7,8 @@ from typing import Any, List
 
 from hidlog_conformance import answers, keys
 from hidlog_conformance import hid_packets as hid
-from hidlog_conformance.answers import check, get_member
+from hidlog_conformance.answers import CaseSkipped, check, get_member
 from hidlog_conformance.response_reader import PERSON, ResponseReader
-from hidlog_conformance.skipped import CaseSkipped
 
 # Members of the responses of authenticatorBioEnrollment (6.7).
 MODALITY, KIND, MAX_SAMPLES, TEMPLATE_ID, SAMPLE_STATUS, REMAINING, TEMPLATES = 1, 2, 3, 4, 5, 6, 7

@@ -3,7 +3,6 @@
 from __future__ import annotations
 
 import os
-import re
 import select
 import shlex
 import signal
@@ -15,17 +14,14 @@ from hidlog_conformance.client_device import BUILT_IN_RULES, BYTE_RULES, MAP_RUL
 from hidlog_conformance.devices import MAX_LINE, InputNotReadError, end_command, start_command, write_to_command
 from hidlog_conformance.interrupts import wait_for_end
 from hidlog_conformance.paths import CLIENTS
-from hidlog_conformance.outcome import Outcome
+from hidlog_conformance.results import Outcome, Results, collect
 from hidlog_conformance.response_reader import CASE_SECONDS, MAX_PACKETS
-from hidlog_conformance.results import Results, collect
-from hidlog_conformance.session_file import SessionSyntaxError, Session
+from hidlog_conformance.session_file import Session, SessionSyntaxError, read_sections
 
 # A session's outcome, and its log.
 Played = Tuple[Outcome, List[str]]
 
 HEADS = ("rule", "requirement", "why", "device", "task", "client", "result", "level")
-# The line before a session in a file of several sessions. The name becomes part of the path of a log.
-SESSION_NAME = re.compile(r"\[([A-Za-z0-9_-]+)\]")
 # Seconds after which a silent client counts as waiting: at the start, and later.
 STARTING, PATIENCE = 30.0, 3.0
 # The first words of a client's last line, and verdicts of the runner, which no session expects.
@@ -45,7 +41,7 @@ def parse_rule(line: str, path: str) -> Tuple[str, List[str]]:
     at, _, rest = line.partition(" ")
     kind, *words = rest.split(" ")
     if at != "at" or not words or words[0] not in {*BUILT_IN_RULES, *MAP_RULES, *BYTE_RULES, *PACKET_RULES}:
-        raise SessionSyntaxError(f"{path}: not a rule: {line}")
+        raise SessionSyntaxError(f"{path}: expected a rule, such as `at KIND NAME`, got {line!r}")
     return kind, words
 
 
@@ -67,24 +63,18 @@ def parse_client_session(name: str, lines: List[str], path: str) -> ClientSessio
 
 
 def read_client_sessions(path: str) -> List[ClientSession]:
-    """Reads a file of client sessions. Each begins with a line that has its name in brackets, and is named after the
-    file and that line. A file without such lines is one session."""
+    """Reads a file of client sessions. Each begins with a line that has its name in brackets: GROUP/NAME, or NAME for
+    the group of the file's name. A file without such lines is one session."""
     file_name = os.path.basename(path)
     group = os.path.splitext(file_name)[0]
     shown = f"conformance/clients/{file_name}" if os.path.dirname(os.path.abspath(path)) == CLIENTS else path
-    sections: List[Tuple[str, List[str]]] = [(group, [])]
-    with open(path, encoding="utf-8") as file:
-        for line in file.read().splitlines():
-            named = SESSION_NAME.fullmatch(line)
-            if named:
-                sections.append((f"{group}/{named[1]}", []))
-            else:
-                sections[-1][1].append(line)
-    if len(sections) > 1 and not any(sections[0][1]):
-        del sections[0]
-    if len({name for name, _ in sections}) < len(sections):
+    sections = read_sections(path)
+    if len(sections) > 1 and not any(sections[""]):
+        del sections[""]
+    named = [(name if "/" in name else f"{group}/{name}" if name else group, name) for name in sections]
+    if len({full for full, _ in named}) < len(named):
         raise SessionSyntaxError(f"{path}: two sessions have the same name")
-    return [parse_client_session(name, lines, shown) for name, lines in sections]
+    return [parse_client_session(full, sections[name], shown) for full, name in named]
 
 
 class Conversation:

@@ -15,7 +15,7 @@ from hidlog_conformance import ctap_cbor
 from hidlog_conformance import hid_packets as hid
 from hidlog_conformance.answers import MAKE
 from hidlog_conformance.merged_requests import merge, read_registration
-from hidlog_conformance.outcome import FAILED, UNSTABLE, Outcome
+from hidlog_conformance.results import FAILED, UNSTABLE, Outcome
 from hidlog_conformance.outline import REGISTRATION, decode_parameters, get_cbor_request
 from hidlog_conformance.session_file import Session, Step
 from hidlog_conformance.reset_tours import RESET_TOURS

@@ -236,7 +236,7 @@ class DeviceInfo:
         return None
 
     def has_feature(self, use: str) -> bool:
-        """Returns whether the device supports a feature that getInfo does not name."""
+        """Returns whether the device supports a feature that is not among those of `has_named`."""
         algorithms = self.algorithms or [-7]
         known = {
             "rk": self.options.get("rk") is True,

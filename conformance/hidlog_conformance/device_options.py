@@ -1,4 +1,4 @@
-"""The command line's options about the device, and the device that they name."""
+"""The command line's options about the device, the device that they name, and descriptions of its errors."""
 
 from __future__ import annotations
 
@@ -40,3 +40,14 @@ def add_device_options(parser: argparse.ArgumentParser) -> None:
     parser.add_argument(
         "--deadline", type=float, default=CASE_SECONDS, metavar="SECONDS", help="time limit of a case (default: 60)"
     )
+
+
+def describe_fault(fault: Exception) -> str:
+    """Describes an error. The description of an OSError is the file's name and the reason, with advice for a device."""
+    if not isinstance(fault, OSError) or not fault.strerror:
+        return str(fault)
+    if fault.filename is None:
+        return fault.strerror
+    name = str(fault.filename)
+    is_refused = isinstance(fault, PermissionError) and name.startswith("/dev/hidraw")
+    return f"{name}: {fault.strerror}" + (": allow it by a udev rule, or run as root" if is_refused else "")

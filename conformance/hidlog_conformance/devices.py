@@ -15,7 +15,7 @@ from typing import Any, Deque, List, Optional, Set, Tuple
 
 from hidlog_conformance.keys import KeyMaker
 from hidlog_conformance.paths import PROGRAM
-from hidlog_conformance.skipped import CaseSkipped
+from hidlog_conformance.answers import CaseSkipped
 
 # Steps that are not log lines: a power cycle, and a power cycle that deletes the credentials, which is a fault.
 POWER_CYCLE, POWER_LOSS = "power cycle", "power loss"
@@ -380,7 +380,7 @@ class HidrawDevice(RealTimeDevice):
         for _ in range(MAX_LEFT_OVER):
             if self.read(0) is None or time.monotonic() > end:
                 return
-        raise OSError(f"{self.path} sends packets without end")
+        raise OSError(f"{self.path} does not stop sending packets")
 
     def write(self, packet: bytes) -> None:
         """Writes a packet as report number 0."""

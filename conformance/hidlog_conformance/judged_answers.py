@@ -36,8 +36,9 @@ from hidlog_conformance.judged_u2f import U2fJudge
 from hidlog_conformance.requests import PIN, find_fault, decode_parameters
 from hidlog_conformance.transactions import Entry, Transaction
 
-# Milliseconds within which nobody deletes a credential without a packet in the log (on the key, or through NFC).
-MIN_DELETION_MS = 1000
+# Minimum time, in milliseconds, of a change that the log does not show, such as a deletion of a credential on the key
+# itself or through NFC.
+MIN_UNLOGGED_CHANGE_MS = 1000
 SETTINGS = (BIO, CONFIG)
 EXPECTED = {MAKE: "made", GET: "asserted", NEXT: "asserted", INFO: "info"}
 
@@ -137,8 +138,8 @@ class AnswerJudge:
 
     def is_recent(self, at: int, transaction: Transaction) -> bool:
         """Returns whether the state that a response showed at time `at` still holds. Changes that the log does not show
-        take at least MIN_DELETION_MS."""
-        return not self.recording.has_no_timestamps and transaction.last - at < MIN_DELETION_MS
+        take at least MIN_UNLOGGED_CHANGE_MS."""
+        return not self.recording.has_no_timestamps and transaction.last - at < MIN_UNLOGGED_CHANGE_MS
 
     def is_fresh(self, kept: KnownCredential, transaction: Transaction) -> bool:
         """Returns whether a response showed the credential so recently that it cannot have been deleted since."""

@@ -6,10 +6,10 @@ from typing import TYPE_CHECKING, Optional, Tuple
 
 from hidlog_conformance import hid_packets as hid
 from hidlog_conformance import rules
-from hidlog_conformance.init_response import NMSG, WINK
+from hidlog_conformance.answers import CAPABILITY_NMSG, CAPABILITY_WINK
 from hidlog_conformance.judged_log import SHOULD, make_difference
 from hidlog_conformance.judged_statuses import JITTER_MS
-from hidlog_conformance.quantity import quantity
+from hidlog_conformance.text import quantity
 from hidlog_conformance.transactions import BUSY, INVALID_CHANNEL, INVALID_COMMAND, NO_TIME_OUT, TIMED_OUT
 from hidlog_conformance.transactions import Entry, Transaction
 
@@ -174,7 +174,11 @@ class ErrorJudge:
         capabilities = self.key.capabilities.get(transaction.channel)
         if capabilities is None or transaction.command == hid.LOCK or (code is not None and code != INVALID_COMMAND):
             return
-        has_it = bool(capabilities & WINK) if transaction.command == hid.WINK else not capabilities & NMSG
+        has_it = (
+            bool(capabilities & CAPABILITY_WINK)
+            if transaction.command == hid.WINK
+            else not capabilities & CAPABILITY_NMSG
+        )
         name = hid.NAMES[transaction.command]
         if has_it and code is not None:
             expected = f"{name} supported, by the capabilities {capabilities:02x}"

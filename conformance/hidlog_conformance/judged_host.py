@@ -7,7 +7,7 @@ from typing import Dict, Optional, Set
 from hidlog_conformance import hid_packets as hid
 from hidlog_conformance import rules
 from hidlog_conformance.judged_log import HOST, MUST, SHOULD, Recording, find_section
-from hidlog_conformance.quantity import quantity
+from hidlog_conformance.text import quantity
 from hidlog_conformance.requests import find_fault
 from hidlog_conformance.transactions import Entry, Transaction
 

@@ -6,14 +6,13 @@ from typing import Dict, List, Optional, Set, Tuple
 
 from hidlog_conformance import hid_packets as hid
 from hidlog_conformance import rules
-from hidlog_conformance.answers import Mismatch
-from hidlog_conformance.init_response import CBOR, is_valid_keepalive, check_init_response
+from hidlog_conformance.answers import CAPABILITY_CBOR, Mismatch, check_init_response, is_valid_keepalive
 from hidlog_conformance.judged_answers import AnswerJudge
 from hidlog_conformance.judged_errors import SERVED, ErrorJudge
 from hidlog_conformance.judged_log import KEY, MUST, SHOULD, SILENCE_MS, Recording, make_difference, to_message
 from hidlog_conformance.judged_missing import MESSAGE_TIMEOUT_MS, MissingJudge
 from hidlog_conformance.judged_parts import ExtensionMismatch
-from hidlog_conformance.quantity import quantity
+from hidlog_conformance.text import quantity
 from hidlog_conformance.transactions import CANCELLED, NO_TIME_OUT, Entry, Transaction
 
 # The minimum number of milliseconds between unplugging a key and its next packet: the debounce interval (USB 2.0,
@@ -382,13 +381,13 @@ class KeyJudge:
         """Checks a response to INIT. The capability CBOR may be missing in a U2F-only key."""
         data = message.data
         if len(data) == 17:
-            data = data[:16] + bytes([data[16] | CBOR])
+            data = data[:16] + bytes([data[16] | CAPABILITY_CBOR])
             if transaction.channel == hid.BROADCAST:
                 self.check_restart(entry, int.from_bytes(data[8:12], "big"))
         channel = check_init_response(data, transaction.data, transaction.channel, self.allocated)
         self.allocated[channel] = entry.line
         self.capabilities[channel] = message.data[16]
-        if not message.data[16] & CBOR:
+        if not message.data[16] & CAPABILITY_CBOR:
             self.without_cbor.append((entry.line, transaction, message))
             self.check_without_cbor()
 

@@ -14,7 +14,7 @@ from hidlog_conformance import hid_packets as hid
 from hidlog_conformance import rules
 from hidlog_conformance.answers import Mismatch
 from hidlog_conformance.hid_packets import Message
-from hidlog_conformance.sections import SECTIONS
+from hidlog_conformance.rules import SECTIONS
 from hidlog_conformance.transactions import Answer, Entry, Lines, Owners, Part, Transaction, Transactions
 
 if TYPE_CHECKING:

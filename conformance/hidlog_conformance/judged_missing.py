@@ -8,7 +8,7 @@ from hidlog_conformance import hid_packets as hid
 from hidlog_conformance import rules
 from hidlog_conformance.judged_errors import SERVED
 from hidlog_conformance.judged_log import MUST, SHOULD, SILENCE_MS
-from hidlog_conformance.quantity import quantity
+from hidlog_conformance.text import quantity
 from hidlog_conformance.transactions import Transaction
 
 if TYPE_CHECKING:

@@ -7,7 +7,7 @@ from typing import Any, Dict, List, Optional
 
 from hidlog_conformance import answers, ctap_cbor
 from hidlog_conformance.answers import ED, MAKE, MAX_RETRIES, Credential, Mismatch, check
-from hidlog_conformance.quantity import quantity
+from hidlog_conformance.text import quantity
 from hidlog_conformance.requests import decode_parameters
 
 PROTECT, BLOB, SECRET = "credProtect", "credBlob", "hmac-secret"

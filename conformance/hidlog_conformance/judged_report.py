@@ -8,8 +8,7 @@ from xml.sax.saxutils import escape, quoteattr
 
 from hidlog_conformance.judged_log import KEY, MUST, SHOULD, Finding, Recording
 from hidlog_conformance.keys import AVAILABLE
-from hidlog_conformance.quantity import quantity
-from hidlog_conformance.sanitize import escape_text
+from hidlog_conformance.text import escape_text, quantity
 
 # The version of the JSON format, and the former names of members of a finding, in version 1. Both names are written.
 FORMAT = 2

@@ -15,7 +15,7 @@ from hidlog_conformance.judged_parts import (
     UncertainMismatch,
     decode_outputs,
 )
-from hidlog_conformance.quantity import quantity
+from hidlog_conformance.text import quantity
 
 BIO, CONFIG = 0x09, 0x0D
 ENABLE_ENTERPRISE, TOGGLE_ALWAYS_UV, SET_MIN_PIN_LENGTH = 1, 2, 3

@@ -15,7 +15,7 @@ from hidlog_conformance.judged_parts import (
     UncertainMismatch,
     find_signer,
 )
-from hidlog_conformance.quantity import quantity
+from hidlog_conformance.text import quantity
 from hidlog_conformance.requests import (
     FORM,
     MISSING,

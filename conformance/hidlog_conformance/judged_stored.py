@@ -16,7 +16,7 @@ from hidlog_conformance.check_credential_management import (
     hash_of,
     check_fragment,
 )
-from hidlog_conformance.quantity import quantity
+from hidlog_conformance.text import quantity
 from hidlog_conformance.requests import decode_parameters
 
 MANAGE, BLOBS = 0x0A, 0x0C

@@ -26,7 +26,7 @@ from hidlog_conformance.judged_parts import (
 from hidlog_conformance.judged_settings import CONFIG
 from hidlog_conformance.judged_statuses import EXCLUDED, NO_CREDENTIALS
 from hidlog_conformance.platform_side import FilledValues, Platform
-from hidlog_conformance.quantity import quantity
+from hidlog_conformance.text import quantity
 from hidlog_conformance.requests import PIN, decode_parameters
 from hidlog_conformance.transactions import Entry, Transaction
 

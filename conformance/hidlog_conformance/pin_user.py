@@ -7,7 +7,7 @@ from dataclasses import replace
 from typing import Any, Callable, Dict, Iterable, Optional, Tuple
 
 from hidlog_conformance import answers, ctap_cbor
-from hidlog_conformance.answers import Credential
+from hidlog_conformance.answers import CaseSkipped, Credential
 from hidlog_conformance.credential_reuse import may_have_own_rps
 from hidlog_conformance.device_info import DeviceInfo, list_requests
 from hidlog_conformance.judged_stored import DELETE, MANAGE
@@ -15,7 +15,6 @@ from hidlog_conformance.outline import decode_parameters, get_cbor_request
 from hidlog_conformance.platform_side import Platform
 from hidlog_conformance.requests import PIN, find_fault
 from hidlog_conformance.session_file import Session, Step, sends_reset
-from hidlog_conformance.skipped import CaseSkipped
 
 GET_AGREEMENT, SET_PIN, GET_TOKEN, NEW_TOKEN = 2, 3, 5, 9
 # The placeholders for a new PIN and for the hash of a PIN, and entries of `uses` in sessions with tokens.

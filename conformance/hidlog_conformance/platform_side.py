@@ -17,7 +17,7 @@ from typing import Any, Dict, List, Optional
 
 from hidlog_conformance import ctap_cbor
 from hidlog_conformance.answers import read_agreement_key, check, get_member
-from hidlog_conformance.quantity import quantity
+from hidlog_conformance.text import quantity
 
 try:
     from cryptography.hazmat.primitives.asymmetric import ec

@@ -12,7 +12,7 @@ from hidlog_conformance.credential_reuse import CredentialReuse
 from hidlog_conformance.device_info import DeviceInfo
 from hidlog_conformance.devices import Device
 from hidlog_conformance.outline import count_touches
-from hidlog_conformance.quantity import quantity
+from hidlog_conformance.text import quantity
 from hidlog_conformance.session_file import Session
 from hidlog_conformance.silent import without_needless_touches
 from hidlog_conformance.touch_plan import order_by_state

@@ -9,17 +9,15 @@ from typing import Any, List, Optional
 from hidlog_conformance import answers, ctap_cbor
 from hidlog_conformance import hid_packets as hid
 from hidlog_conformance import rules
-from hidlog_conformance.answers import MAX_RETRIES, MAX_USER_RETRIES, Mismatch, check
-from hidlog_conformance.quantity import quantity
-from hidlog_conformance.skipped import CaseSkipped
-from hidlog_conformance.init_response import check_init_response
+from hidlog_conformance.answers import MAX_RETRIES, MAX_USER_RETRIES, CaseSkipped, Mismatch, check, check_init_response
+from hidlog_conformance.text import quantity
 from hidlog_conformance.judged_parts import GET_AGREEMENT, TOKENS, read_credential_id
 from hidlog_conformance.judged_settings import BIO, TEMPLATE
 from hidlog_conformance.requests import PIN
 from hidlog_conformance.response_reader import ANSWER, MIN_CHANNELS, MAX_PACKETS, GOES_ON, IN_TIME, REST
 from hidlog_conformance.check_credential_management import check_fragment
 from hidlog_conformance.check_settings import SettingsReader
-from hidlog_conformance.outcome import Outcome
+from hidlog_conformance.results import Outcome
 from hidlog_conformance.transactions import NO_TIME_OUT
 from hidlog_conformance.session_file import Step
 from hidlog_conformance.outline import REGISTRATION

@@ -1,7 +1,9 @@
-"""Writes the outcomes of the cases as text, TAP, JUnit XML, JSON or HTML."""
+"""Writes the outcomes of the cases as text, TAP, JUnit XML, JSON or HTML, and compares them with lists of expected
+failures."""
 
 from __future__ import annotations
 
+import os
 import sys
 import time
 from typing import Callable, Dict, List
@@ -9,11 +11,12 @@ from xml.sax.saxutils import escape, quoteattr
 
 from hidlog_conformance import __version__, ctap_cbor, report_page
 from hidlog_conformance.device_info import DeviceInfo
-from hidlog_conformance.outcome import FAILED, UNSTABLE, Outcome
-from hidlog_conformance.quantity import quantity
+from hidlog_conformance.paths import DATA
+from hidlog_conformance.results import FAILED, UNSTABLE, Outcome
 from hidlog_conformance.response_reader import GOES_ON, IN_TIME
-from hidlog_conformance.sanitize import escape_text
-from hidlog_conformance.sections import SECTIONS
+from hidlog_conformance.text import escape_text, quantity
+from hidlog_conformance.rules import SECTIONS
+from hidlog_conformance.session_file import read_sections
 
 TITLES = {title.split(" ")[0]: "CTAP 2.1, " + title for title in SECTIONS.values()}
 Header = Dict[str, str]
@@ -215,3 +218,33 @@ WRITERS: Dict[str, Callable[[List[Outcome], Header], None]] = {
 def write(kind: str, outcomes: List[Outcome], header: Header) -> None:
     """Writes a report."""
     WRITERS[kind](outcomes, header)
+
+
+def parse_list(path: str, section: str = "") -> Dict[str, str]:
+    """Parses a list of expected failures (names, below a line `# REASON`), or a section of one; returns the reason by
+    name."""
+    found: Dict[str, str] = {}
+    reason = ""
+    for line in read_sections(path)[section]:
+        if line.startswith("# "):
+            reason = line[2:]
+        elif line:
+            if not reason or line in found:
+                raise ValueError(f"{path}: {line} is a duplicate or has no reason above it")
+            found[line] = reason
+    return found
+
+
+def read_list(path: str, section: str = "") -> Dict[str, str]:
+    """Returns the expected failures of a list in conformance/, with their reasons."""
+    return parse_list(os.path.join(DATA, path), section)
+
+
+def compare_failures(path: str, outcomes: List[Outcome]) -> bool:
+    """Prints the totals, and returns whether exactly the listed cases failed."""
+    failed = {outcome.session.name for outcome in outcomes if outcome.status in FAILED}
+    expected = set(read_list(path))
+    for name in sorted(failed ^ expected):
+        print(f"{name} {'fails' if name in failed else 'passes'}, unlike in conformance/{path}")
+    print(f"{format_totals(outcomes)}; {len(expected)} expected failures in conformance/{path}")
+    return failed == expected

@@ -6,7 +6,7 @@ import html
 import json
 from typing import Dict, List, NamedTuple
 
-from hidlog_conformance.outcome import UNSTABLE
+from hidlog_conformance.results import UNSTABLE
 
 # The version of the JSON report. Version 1 had `said` for `details`; both members are written.
 FORMAT = 2

@@ -7,7 +7,7 @@ from functools import lru_cache
 from typing import Any, Callable, Dict, List, Optional, Tuple
 
 from hidlog_conformance import ctap_cbor, rules
-from hidlog_conformance.quantity import quantity
+from hidlog_conformance.text import quantity
 
 MAKE, GET, INFO, PIN, RESET, NEXT, SELECTION = 0x01, 0x02, 0x04, 0x06, 0x07, 0x08, 0x0B
 ENROLL, CONFIGURE = 0x09, 0x0D

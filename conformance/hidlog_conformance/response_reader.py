@@ -7,16 +7,14 @@ from typing import Any, Dict, List, Optional, Set, Tuple
 
 from hidlog_conformance import answers, ctap_cbor
 from hidlog_conformance import hid_packets as hid
-from hidlog_conformance.answers import Credential, Mismatch, DeviceFacts, check
+from hidlog_conformance.answers import Credential, DeviceFacts, Mismatch, check, is_valid_keepalive
 from hidlog_conformance.devices import Device
-from hidlog_conformance.init_response import is_valid_keepalive
 from hidlog_conformance.hid_packets import Message
 from hidlog_conformance.check_credential_management import Listing
 from hidlog_conformance.live_judge import LiveJudge
-from hidlog_conformance.outcome import derive_id
 from hidlog_conformance.pin_user import PinUser
 from hidlog_conformance.platform_side import Platform
-from hidlog_conformance.quantity import quantity
+from hidlog_conformance.text import quantity
 from hidlog_conformance.session_file import Session, Step
 from hidlog_conformance.credential_reuse import CredentialReuse, prefix_rp_id
 from hidlog_conformance.touch_saver import Sharing
@@ -47,6 +45,13 @@ def rename_handles(apdu: bytes, handles: Dict[bytes, bytes]) -> bytes:
             data = apdu[7:].replace(bytes([len(name)]) + name, bytes([len(handle)]) + handle)
             return apdu[:5] + len(data).to_bytes(2, "big") + data
     return apdu
+
+
+def derive_id(kind: str, identity: bytes) -> bytes:
+    """Returns an ID that differs slightly from `identity`: its last byte is changed, missing or followed by a zero."""
+    if kind == "changed":
+        return identity[:-1] + bytes([identity[-1] ^ 1])
+    return identity + b"\0" if kind == "longer" else identity[:-1]
 
 
 class ResponseReader:

@@ -1,4 +1,5 @@
-"""Finds the rule that a difference violates, which may differ from the session's rule."""
+"""The sections of CTAP 2.1 that have cases, and the one that a difference violates, which may differ from the session's
+own."""
 
 from __future__ import annotations
 
@@ -8,6 +9,43 @@ from typing import Dict, Optional
 from hidlog_conformance import hid_packets as hid
 from hidlog_conformance.hid_packets import Message
 
+# The titles of the sections that have cases, by the names that cases use.
+SECTIONS = {
+    "channels": "11.2.3 Concurrency and channels",
+    "packets": "11.2.4 Message and packet structure",
+    "busy": "11.2.5.1 Transaction atomicity, idle and busy states",
+    "timeout": "11.2.5.2 Transaction timeout",
+    "abort": "11.2.5.3 Transaction abort and re-synchronization",
+    "sequence": "11.2.5.4 Packet sequencing",
+    "msg": "11.2.9.1.1 CTAPHID_MSG",
+    "wink": "11.2.9.2.1 CTAPHID_WINK",
+    "lock": "11.2.9.2.2 CTAPHID_LOCK",
+    "cbor command": "11.2.9.1.2 CTAPHID_CBOR",
+    "init": "11.2.9.1.3 CTAPHID_INIT",
+    "ping": "11.2.9.1.4 CTAPHID_PING",
+    "cancel": "11.2.9.1.5 CTAPHID_CANCEL",
+    "error": "11.2.9.1.6 CTAPHID_ERROR",
+    "keepalive": "11.2.9.1.7 CTAPHID_KEEPALIVE",
+    "make": "6.1.2 authenticatorMakeCredential Algorithm",
+    "get": "6.2.2 authenticatorGetAssertion Algorithm",
+    "next": "6.3 authenticatorGetNextAssertion",
+    "info": "6.4 authenticatorGetInfo",
+    "pin": "6.5 authenticatorClientPIN",
+    "protect": "12.1 Credential Protection",
+    "blob": "12.2 Credential Blob",
+    "pin length": "12.4 Minimum PIN Length Extension",
+    "secret": "12.5 HMAC Secret Extension",
+    "bio": "6.7 authenticatorBioEnrollment",
+    "config": "6.11 authenticatorConfig",
+    "ctap1": "10 Interoperating with CTAP1",
+    "manage": "6.8 authenticatorCredentialManagement",
+    "blobs": "6.10 authenticatorLargeBlobs",
+    "blob key": "12.3 Large Blob Key",
+    "reset": "6.6 authenticatorReset",
+    "selection": "6.9 authenticatorSelection",
+    "cbor": "8 Message Encoding",
+    "commands": "8.1 Command Codes",
+}
 CHANNELS, PACKETS, BUSY, TIMEOUT, SEQUENCE = "11.2.3", "11.2.4", "11.2.5.1", "11.2.5.2", "11.2.5.4"
 ABORT = "11.2.5.3"
 CBOR, INIT, PING, CANCEL = "11.2.9.1.2", "11.2.9.1.3", "11.2.9.1.4", "11.2.9.1.5"

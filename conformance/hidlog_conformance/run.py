@@ -26,19 +26,14 @@ from hidlog_conformance.client_runner import (
 )
 from hidlog_conformance.combined import CombinedCase
 from hidlog_conformance.devices import Device, PipeDevice, kill_running
-from hidlog_conformance.device_options import add_device_options, make_device
-from hidlog_conformance.expected_failures import parse_list
+from hidlog_conformance.device_options import add_device_options, describe_fault, make_device
 from hidlog_conformance.answers import MAKE
 from hidlog_conformance import hid_packets as hid
 from hidlog_conformance.device_info import DeviceInfo, ask, prepare, send_init
 from hidlog_conformance.pin_user import PERMISSIONS, PinUser
-from hidlog_conformance.outcome import FAILED, UNSTABLE, Outcome
-from hidlog_conformance.quantity import quantity
+from hidlog_conformance.results import FAILED, UNSTABLE, Outcome, ResultFile, Results, collect
 from hidlog_conformance.response_reader import CASE_SECONDS, GOES_ON, IN_TIME
-from hidlog_conformance.result_file import ResultFile
-from hidlog_conformance.results import Results, collect
-from hidlog_conformance.fault_text import describe_fault
-from hidlog_conformance.sanitize import escape_text
+from hidlog_conformance.text import escape_text, quantity
 from hidlog_conformance.play_order import PINS, asks_person, find_combined, order_sessions
 from hidlog_conformance.player import FULL, Player
 from hidlog_conformance.session_cache import session_name, session_path, sessions_folder
@@ -349,7 +344,7 @@ def report_results(
     if not options.expected_failures:
         return 1 if failed else 0
     played = {outcome.session.name for outcome in outcomes if outcome.status != "skip"}
-    expected = set(parse_list(options.expected_failures)) & played
+    expected = set(report.parse_list(options.expected_failures)) & played
     for name in sorted(failed ^ expected):
         text = "unexpected failure" if name in failed else "unexpected success"
         print(f"{text} (according to {options.expected_failures}): {name}", file=sys.stderr)
@@ -455,7 +450,7 @@ def main(arguments: List[str]) -> int:
             return print_list(options)
         if options.expected_failures:
             # An error in the list is reported before the run instead of after it.
-            parse_list(options.expected_failures)
+            report.parse_list(options.expected_failures)
         return play_to_client(options) if options.client else play_to_device(options)
     except BrokenPipeError:
         raise

@@ -34,7 +34,7 @@ def list_sources() -> List[str]:
     found = []
     for folder in (PACKAGE, os.path.join(DATA, "fuzzed"), os.path.join(DATA, "recorded")):
         for place, _, names in os.walk(folder):
-            found += [os.path.join(place, name) for name in names if name.endswith((".py", ".log"))]
+            found += [os.path.join(place, name) for name in names if name.endswith((".py", ".log", ".logs"))]
     return sorted(found)
 
 

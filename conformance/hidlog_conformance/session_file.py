@@ -1,4 +1,4 @@
-"""Reads session files: logs with the expected responses in comments."""
+"""Reads session files: logs with the expected responses in comments. Also reads files of several sessions or logs."""
 
 from __future__ import annotations
 
@@ -14,6 +14,8 @@ PACKET = 64
 # A timestamp is below 2**63 (LOG_FORMAT.md).
 MAX_DIGITS = 19
 RULE = re.compile(r"[^,]+, \S")
+# The line before a section in a file of several sessions or logs. A name may become a path below a folder.
+SECTION_NAME = re.compile(r"\[([A-Za-z0-9_-]+(?:/[A-Za-z0-9_-]+)?)\]")
 TEXTS = ("rule", "requirement", "why", "profile", "level", "since", "client", "found")
 
 
@@ -135,6 +137,30 @@ class SessionReader:
             self.open = False
         else:
             raise self.make_error(line, f"unknown line kind {kind[:40]!r}; expected >, <, t, p, k, s or #")
+
+
+def read_sections(path: str) -> Dict[str, List[str]]:
+    """Reads a file of several sessions or logs, each after a line with its name in brackets. Returns the lines by name;
+    those before the first name have the name ""."""
+    sections: Dict[str, List[str]] = {"": []}
+    name = ""
+    with open(path, encoding="utf-8") as file:
+        for line in file.read().splitlines():
+            named = SECTION_NAME.fullmatch(line)
+            if not named:
+                sections[name].append(line)
+                continue
+            name = named[1]
+            if name in sections:
+                raise SessionSyntaxError(f"{path}: two sections are named {name}")
+            sections[name] = []
+    return sections
+
+
+def read_logs(path: str) -> Dict[str, bytes]:
+    """Returns the logs of a file of several, by name."""
+    sections = read_sections(path)
+    return {name: "".join(f"{line}\n" for line in lines).encode() for name, lines in sections.items() if name}
 
 
 def sends_reset(step: Step) -> bool:

@@ -9,10 +9,10 @@ from typing import Iterable, List, Optional, Tuple
 from hidlog_conformance.answers import Mismatch
 from hidlog_conformance.device_info import DeviceInfo
 from hidlog_conformance.devices import Device
-from hidlog_conformance.outcome import Outcome
+from hidlog_conformance.results import Outcome
 from hidlog_conformance.player import Player
 from hidlog_conformance.response_reader import GOES_ON
-from hidlog_conformance.sections import SECTIONS
+from hidlog_conformance.rules import SECTIONS
 from hidlog_conformance.session_file import SessionReader, Step
 from hidlog_conformance.walk_settings import SettingSteps
 from hidlog_conformance.walk_steps import ID_FRONT, ID_LENGTH, Block

@@ -13,12 +13,10 @@ from typing import List
 
 from hidlog_conformance import interrupts, keys
 from hidlog_conformance.device_info import DeviceInfo
-from hidlog_conformance.device_options import make_device, add_device_options
+from hidlog_conformance.device_options import add_device_options, describe_fault, make_device
 from hidlog_conformance.devices import Device, kill_running
-from hidlog_conformance.quantity import quantity
 from hidlog_conformance.report import TITLES
-from hidlog_conformance.fault_text import describe_fault
-from hidlog_conformance.sanitize import escape_text
+from hidlog_conformance.text import escape_text, quantity
 from hidlog_conformance.walk import ANY, Walk, WalkResult, shrink
 
 STEPS = 500

@@ -5,7 +5,7 @@ from __future__ import annotations
 import hashlib
 from typing import Any, Dict, List
 
-from hidlog_conformance.reference.active_request import Pending
+from hidlog_conformance.reference.requests import Pending
 from hidlog_conformance.reference.authenticator import Authenticator
 from hidlog_conformance.reference.credential import new_key
 from hidlog_conformance.reference.transport import Transport

@@ -20,23 +20,21 @@ from state_mutants import STATE_MUTANTS
 from wire_mutants import WIRE_MUTANTS
 
 from hidlog_conformance.device_info import DeviceInfo
-from hidlog_conformance.outcome import Outcome
+from hidlog_conformance.results import Outcome, Results
 from hidlog_conformance.play_order import order_sessions
-from hidlog_conformance.quantity import quantity
-from hidlog_conformance.reference.device import ReferenceDevice
-from hidlog_conformance.reference.persistent_key import PersistentKey
-from hidlog_conformance.results import Results
+from hidlog_conformance.text import quantity
+from hidlog_conformance.reference.device import PersistentKey, ReferenceDevice
 from hidlog_conformance.run import all_sessions, parse_options, play_all, play_one
 from hidlog_conformance.walk import walk
 
 TABLE = CREDENTIAL_MUTANTS + ANSWER_MUTANTS + WIRE_MUTANTS + PIN_MUTANTS + MORE_MUTANTS + FAMILY_MUTANTS
 TABLE += LOCK_MUTANTS
 MUTANTS: Dict[str, Mutant] = {fault.name: fault for fault in TABLE}
-assert len(MUTANTS) == len(TABLE), "a mutant's name is not unique"
+assert len(MUTANTS) == len(TABLE), "two mutants have the same name"
 # Mutants that only walks detect. A walk with each of these seeds must detect them, within this number of steps.
 STATE_TABLE = STATE_MUTANTS + PIN_STATE_MUTANTS + MORE_STATE_MUTANTS + SETTING_STATE_MUTANTS
 STATEFUL: Dict[str, Mutant] = {fault.name: fault for fault in STATE_TABLE}
-assert len(STATEFUL) == len(STATE_TABLE), "a mutant's name is not unique"
+assert len(STATEFUL) == len(STATE_TABLE), "two mutants have the same name"
 SEEDS, STEPS = (1, 2), 5000
 # Mutants that are not detected by a run in which a person touches a key, with the reason.
 NEVER_FULL, NEVER_DENIES = "60 touches do not fill a key", "a person who tests a key does not deny"

@@ -1,4 +1,4 @@
-"""Faults of settings and fingerprints that depend on earlier requests, power cycles or resets; walks find them."""
+"""Faults of settings and fingerprints that depend on earlier requests or power cycles; walks find them."""
 
 from __future__ import annotations
 
@@ -11,7 +11,7 @@ from hidlog_conformance.reference.traits import DeviceTraits
 
 from mutant import Mutant, replace_method, wrap_method
 
-CONFIG, BIO, PIN, LENGTH, INFO, RESET = "6.11", "6.7", "6.5", "12.4", "6.4", "6.6"
+CONFIG, BIO, PIN, LENGTH = "6.11", "6.7", "6.5", "12.4"
 SETTINGS = DeviceTraits(config=True, bio=True)
 WITH_MIN_PIN_LENGTH = DeviceTraits(config=True, extensions=("minPinLength",))
 

@@ -57,7 +57,7 @@ def list_files() -> Dict[str, bytes]:
     folders = {
         "hidlog_conformance": ".py",
         "clients": ".sessions",
-        "fuzzed": ".log",
+        "fuzzed": ".logs",
         "recorded": ".log",
     }
     for folder, ending in folders.items():
@@ -65,7 +65,7 @@ def list_files() -> Dict[str, bytes]:
         for place, _, names in os.walk(os.path.join(CORPUS, folder)):
             rest = os.path.relpath(place, os.path.join(CORPUS, folder))
             for name in names:
-                if name.endswith(ending) and "logs" not in rest.split(os.sep):
+                if name.endswith(ending):
                     path = os.path.normpath(os.path.join(inside or folder, rest, name))
                     with open(os.path.join(place, name), "rb") as file:
                         found[path] = file.read()

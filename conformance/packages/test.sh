@@ -6,7 +6,7 @@ top=$(cd "$(dirname "${BASH_SOURCE[0]}")/../.." && pwd)
 work=$(mktemp -d)
 trap 'rm -rf "$work"' EXIT
 for tool in dpkg-deb python3; do
-    command -v "$tool" >/dev/null || { echo "$tool is missing; nothing was run" && exit 3; }
+    command -v "$tool" >/dev/null || { echo "conformance/packages/test.sh: $tool is missing; nothing was run" && exit 3; }
 done
 python=$("$top/tests/with_fido2.sh" -c 'import sys; print(sys.executable)')
 for folder in one two; do
@@ -34,7 +34,7 @@ dpkg-deb -x "$work"/one/*.deb "$work/root"
 export PYTHONPATH=$work/root/usr/lib/python3/dist-packages
 reference="$python -m hidlog_conformance.reference"
 echo "the deb: $(run_tests "$python" "$work/root/usr/bin/hidlog-conformance" | tr '\n' ' ')"
-! "$work/venv/bin/python" -c 'import keys, report, rules' 2>/dev/null || { echo "a module with a common name is importable" && exit 1; }
+! "$work/venv/bin/python" -c 'import keys, report, rules' 2>/dev/null || { echo "the wheel installs a module with a common name: keys, report or rules" && exit 1; }
 if command -v lintian >/dev/null; then
     lintian --fail-on error "$work"/one/*.deb
 fi

@@ -1,6 +1,6 @@
 // Credential management with libfido2: registers with large blob keys, lists,
 // renames and deletes credentials, and writes a large blob, with a PIN. With
-// an argument it uses built-in user verification, registers and signs in.
+// an argument, only registers and signs in, with built-in user verification.
 // Writes and reads packets as lines, and ends with a line `ok` or `refused`.
 //
 //     gcc -o libfido2_stored conformance/pin/libfido2_stored.c -lfido2
@@ -20,7 +20,7 @@ static void require_equal(const char *what, unsigned long found, unsigned long w
 }
 
 static fido_cred_t *register_with_large_blob_key(fido_dev_t *device, const char *at, const char *name,
-                           const char *given) {
+                           const char *used_pin) {
   fido_cred_t *cred = fido_cred_new();
   require_ok("type", fido_cred_set_type(cred, COSE_ES256));
   require_ok("hash", fido_cred_set_clientdata_hash(cred, hash, sizeof hash));
@@ -29,16 +29,16 @@ static fido_cred_t *register_with_large_blob_key(fido_dev_t *device, const char 
                                   strlen(name), name, name, NULL));
   require_ok("rk", fido_cred_set_rk(cred, FIDO_OPT_TRUE));
   require_ok("uv",
-       fido_cred_set_uv(cred, given == NULL ? FIDO_OPT_TRUE : FIDO_OPT_OMIT));
+       fido_cred_set_uv(cred, used_pin == NULL ? FIDO_OPT_TRUE : FIDO_OPT_OMIT));
   require_ok("extensions", fido_cred_set_extensions(cred, FIDO_EXT_LARGEBLOB_KEY));
-  require_ok("register", fido_dev_make_cred(device, cred, given));
+  require_ok("register", fido_dev_make_cred(device, cred, used_pin));
   require_ok("uv", fido_cred_set_uv(cred, FIDO_OPT_TRUE));
   require_ok("verify the registration", fido_cred_verify_self(cred));
-  require_equal("a key of large blobs", fido_cred_largeblob_key_len(cred), 32);
+  require_equal("the length of the large blob key", fido_cred_largeblob_key_len(cred), 32);
   return cred;
 }
 
-static void check_listed_credentials(fido_dev_t *device, const fido_cred_t *first) {
+static void test_listed_credentials(fido_dev_t *device, const fido_cred_t *first) {
   fido_credman_metadata_t *metadata = fido_credman_metadata_new();
   fido_credman_rp_t *rps = fido_credman_rp_new();
   fido_credman_rk_t *found = fido_credman_rk_new();
@@ -52,21 +52,21 @@ static void check_listed_credentials(fido_dev_t *device, const fido_cred_t *firs
   int is_first = memcmp(fido_cred_id_ptr(one), fido_cred_id_ptr(first),
                         fido_cred_id_len(first)) == 0;
   one = fido_credman_rk(found, is_first ? 0 : 1);
-  require_equal("the id",
+  require_equal("memcmp of the credential IDs",
        memcmp(fido_cred_id_ptr(one), fido_cred_id_ptr(first),
               fido_cred_id_len(first)),
        0);
-  require_equal("the key",
+  require_equal("memcmp of the public keys",
        memcmp(fido_cred_pubkey_ptr(one), fido_cred_pubkey_ptr(first),
               fido_cred_pubkey_len(first)),
        0);
-  require_equal("the key of large blobs",
+  require_equal("memcmp of the large blob keys",
        memcmp(fido_cred_largeblob_key_ptr(one),
               fido_cred_largeblob_key_ptr(first), 32),
        0);
 }
 
-static void check_changes(fido_dev_t *device, fido_cred_t *first,
+static void test_changes(fido_dev_t *device, fido_cred_t *first,
                     const fido_cred_t *second) {
   fido_cred_t *renamed = fido_cred_new();
   fido_credman_rk_t *found = fido_credman_rk_new();
@@ -78,8 +78,8 @@ static void check_changes(fido_dev_t *device, fido_cred_t *first,
   require_ok("delete", fido_credman_del_dev_rk(device, fido_cred_id_ptr(second),
                                          fido_cred_id_len(second), pin));
   require_ok("the credentials", fido_credman_get_dev_rk(device, rp, found, pin));
-  require_equal("credentials that are left", fido_credman_rk_count(found), 1);
-  require_equal("the name",
+  require_equal("remaining credentials of the RP", fido_credman_rk_count(found), 1);
+  require_equal("strcmp of the user names",
        (unsigned long)strcmp(fido_cred_user_name(fido_credman_rk(found, 0)),
                              "renamed"),
        0);
@@ -93,7 +93,7 @@ static void test_large_blobs(fido_dev_t *device, const fido_cred_t *first) {
        fido_dev_largeblob_set(device, key, 32, blob, sizeof blob, pin));
   require_ok("read a blob", fido_dev_largeblob_get(device, key, 32, &found, &length));
   require_equal("the blob's length", length, sizeof blob);
-  require_equal("the blob", (unsigned long)memcmp(found, blob, sizeof blob), 0);
+  require_equal("memcmp of the blobs", (unsigned long)memcmp(found, blob, sizeof blob), 0);
 }
 
 static void test_user_verification(fido_dev_t *device) {
@@ -122,8 +122,8 @@ int main(int count, char **words) {
     fido_cred_t *first = register_with_large_blob_key(device, rp, "alice", pin),
                 *second = register_with_large_blob_key(device, rp, "bob", pin);
     register_with_large_blob_key(device, "example.org", "alice", pin);
-    check_listed_credentials(device, first);
-    check_changes(device, first, second);
+    test_listed_credentials(device, first);
+    test_changes(device, first, second);
     test_large_blobs(device, first);
   }
   printf("ok\n");

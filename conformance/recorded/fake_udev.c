@@ -1,5 +1,5 @@
-// Makes a browser see a hidraw device that the kernel does not have: replaces libudev, and the ioctls for a report descriptor.
-// For recordings on a machine without /dev/uhid.
+// Makes a browser see a hidraw device that the kernel does not have: replaces libudev, and the ioctls for a report
+// descriptor. For recordings on a machine without /dev/uhid.
 //
 //     gcc -shared -fPIC -Wl,-soname,libudev.so.1 -Wl,--version-script=fake_udev.map -o libudev.so.1 fake_udev.c
 //     FAKE_HIDRAW=/dev/pts/3 FAKE_SYSFS=FOLDER LD_PRELOAD=./libudev.so.1 chromium ..
@@ -260,18 +260,18 @@ static bool is_device(int file) {
 int ioctl(int file, unsigned long request, ...) {
     va_list rest;
     va_start(rest, request);
-    void *given = va_arg(rest, void *);
+    void *argument = va_arg(rest, void *);
     va_end(rest);
     struct hidraw_report_descriptor found = {0};
     if (request == HIDIOCGRDESCSIZE && is_device(file)) {
-        *(int *)given = (int)read_descriptor(found.value, sizeof found.value);
+        *(int *)argument = (int)read_descriptor(found.value, sizeof found.value);
         return 0;
     }
     if (request == HIDIOCGRDESC && is_device(file)) {
-        struct hidraw_report_descriptor *to = given;
+        struct hidraw_report_descriptor *to = argument;
         to->size = (unsigned)read_descriptor(to->value, sizeof to->value);
         return 0;
     }
     int (*next)(int, unsigned long, ...) = (int (*)(int, unsigned long, ...))dlsym(RTLD_NEXT, "ioctl");
-    return next(file, request, given);
+    return next(file, request, argument);
 }

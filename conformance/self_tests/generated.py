@@ -68,7 +68,7 @@ def test_new_clone() -> None:
         assert len(clone.output("run.py", "--list").splitlines()) == count_recorded_sums()
         assert len(clone.folders()) == 1, clone.folders()
         links = [path for path in Path(clone.folder).rglob("*") if path.is_symlink()]
-        assert not links, f"rt ci refuses a repository with links: {links}"
+        assert not links, f"the clone has symbolic links, which rt ci refuses: {links}"
         words = [sys.executable, os.path.join(clone.folder, "run.py"), "--list", "bytes_0001.log"]
         inside = os.path.join(clone.folder, "sessions", "ping")
         assert subprocess.run(words, cwd=inside, capture_output=True, text=True).stdout == named
@@ -93,7 +93,7 @@ def test_changed_table() -> None:
         assert "Padding has no meaning." in copied, copied
         os.utime(first, (0, 0))
         clone.output("-c", COUNT)
-        assert len(clone.folders()) == 1, "folders of other sources are kept"
+        assert len(clone.folders()) == 1, "sessions of changed sources were not deleted"
     print("generated sessions: current after a change of the sources")
 
 

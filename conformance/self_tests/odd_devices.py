@@ -95,9 +95,9 @@ def test_flood() -> None:
 
 
 def test_dev_zero() -> None:
-    """/dev/zero is reported as a device that sends packets without end."""
+    """/dev/zero is reported as a device that does not stop sending packets."""
     status, _, heard = run_command(["--device", "/dev/zero"])
-    assert status == 2 and "sends packets without end" in heard, heard
+    assert status == 2 and "does not stop sending packets" in heard, heard
 
 
 def test_full_device() -> None:

@@ -11,14 +11,12 @@ from typing import Any, Dict, List, Optional, Tuple
 from hidlog_conformance import play_order, response_reader, run
 from hidlog_conformance.combined import CombinedCase
 from hidlog_conformance.device_info import DeviceInfo
-from hidlog_conformance.outcome import Outcome
+from hidlog_conformance.results import Outcome, Results
 from hidlog_conformance.pin_user import PinUser
 from hidlog_conformance.reference.authenticator import Authenticator
-from hidlog_conformance.reference.device import Change
-from hidlog_conformance.reference.persistent_key import PersistentKey
+from hidlog_conformance.reference.device import Change, PersistentKey
 from hidlog_conformance.reference.pin import INVALID_PARAMETER, RETRIES, RequestError
 from hidlog_conformance.reference.requests import Types
-from hidlog_conformance.results import Results
 from hidlog_conformance.session_file import Session
 from hidlog_conformance.touch_plan import DeviceState
 from trying import check_detected

@@ -14,7 +14,7 @@ from typing import Any, Dict, Iterator, List
 
 from hidlog_conformance import report, run
 from hidlog_conformance.device_info import DeviceInfo
-from hidlog_conformance.outcome import FAILED, UNSTABLE, Outcome
+from hidlog_conformance.results import FAILED, UNSTABLE, Outcome
 from hidlog_conformance.reference.authenticator import Authenticator
 from hidlog_conformance.reference.device import ReferenceDevice
 from hidlog_conformance.reference.traits import DeviceTraits

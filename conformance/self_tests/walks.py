@@ -13,12 +13,20 @@ from typing import Any, Dict, List, Set, Tuple
 import proved_walk
 from hidlog import logs
 from hidlog_conformance.judged_log import Recording, split_at_power_cycles, pad_truncated_packets
+from hidlog_conformance.session_file import read_logs
 from hidlog_conformance.transactions import Entry, Lines, Owners, Transactions
 from second_walk import walk_log
 from trying import check_detected
 
 TOP = os.path.join(os.path.dirname(os.path.abspath(__file__)), "..", "..")
-FOLDERS = ("examples", "examples/failing", "tests/captures/data", "conformance/recorded", "conformance/clients/logs")
+FOLDERS = (
+    "examples",
+    "examples/failing",
+    "tests/captures/data",
+    "conformance/recorded",
+    "conformance/clients",
+    "conformance/fuzzed",
+)
 # For the first line of each transaction: the transaction's end, the line that ended it, the line of a CANCEL, and the
 # lines that belong to it.
 Ends = Dict[int, Tuple[str, int, int, List[int]]]
@@ -66,13 +74,14 @@ def list_second_ends(log: bytes, unsure: Set[int]) -> Ends:
 
 def list_recorded_logs() -> List[Tuple[str, bytes]]:
     """Returns the valid logs of the repository, by path; logs of only inputs with this key's packets."""
-    found = []
+    recorded = []
     for path in sorted(path for folder in FOLDERS for path in glob.glob(os.path.join(TOP, folder, "*.log"))):
         with open(path, "rb") as file:
-            log = file.read()
-        if not logs.quiet(log).status:
-            found.append((path, log if b"\n< " in log else logs.replay(log).text))
-    return found
+            recorded.append((path, file.read()))
+    for path in sorted(path for folder in FOLDERS for path in glob.glob(os.path.join(TOP, folder, "*.logs"))):
+        recorded += [(f"{path}: {name}", log) for name, log in read_logs(path).items()]
+    valid = [(name, log) for name, log in recorded if not logs.quiet(log).status]
+    return [(name, log if b"\n< " in log else logs.replay(log).text) for name, log in valid]
 
 
 def test_both_walks_agree() -> None:
@@ -83,7 +92,7 @@ def test_both_walks_agree() -> None:
             ends, unsure = list_proved_ends(pad_truncated_packets(part))
             assert ends == list_second_ends(
                 pad_truncated_packets(part), unsure
-            ), f"{path}: the two implementations differ"
+            ), f"{path}: the transactions of the two implementations differ"
             count += len(ends)
     assert count > 300, f"only {count} transactions were compared"
 
@@ -97,7 +106,7 @@ def test_block_sizes() -> None:
     while block:
         found += block
         block = lines.block()
-    assert found == text.split(b"\n"), "the lines of a text"
+    assert found == text.split(b"\n"), "the lines differ from those of split"
 
 
 TESTS = {

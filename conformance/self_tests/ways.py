@@ -28,7 +28,7 @@ from hidlog_conformance import run
 from hidlog_conformance.client_runner import client_sessions
 from hidlog_conformance.device_info import DeviceInfo
 from hidlog_conformance.devices import LiveDevice, PipeDevice
-from hidlog_conformance.outcome import UNSTABLE
+from hidlog_conformance.results import UNSTABLE
 from hidlog_conformance.outline import count_touches
 from hidlog_conformance.session_cache import sessions_folder
 from python_key import Key
@@ -90,8 +90,8 @@ def test_hidraw() -> None:
         assert " 0 failed" in text, text
     terminal.ended = True
     terminal.thread.join()
-    assert terminal.wrong == 0, "a report without the number 0"
-    assert terminal.resets == 0, "a reset without --reset"
+    assert terminal.wrong == 0, "a packet does not begin with report ID 0"
+    assert terminal.resets == 0, "the device was reset without --reset"
 
 
 def test_pipe() -> None:
@@ -119,11 +119,11 @@ def test_reports() -> None:
     """Parses the JUnit and TAP reports."""
     found = xml.fromstring(get_output(["--only", "ping/", "--report", "junit"]))
     cases = found.findall("testcase")
-    assert cases and len(cases) == int(found.attrib["tests"]), "the number of cases in JUnit"
-    assert all(len(case.findall("properties/property")) == 2 for case in cases), "a case without its rule"
+    assert cases and len(cases) == int(found.attrib["tests"]), "the JUnit report has a wrong number of cases"
+    assert all(len(case.findall("properties/property")) == 2 for case in cases), "a case has no rule"
     lines = get_output(["--only", "ping/", "--report", "tap"]).splitlines()
-    assert lines[:2] == ["TAP version 13", f"1..{len(cases)}"], "TAP's plan"
-    assert sum(line.startswith("# rule: ") for line in lines) == len(cases), "a case without its rule"
+    assert lines[:2] == ["TAP version 13", f"1..{len(cases)}"], f"unexpected first lines of the TAP report: {lines[:2]}"
+    assert sum(line.startswith("# rule: ") for line in lines) == len(cases), "a case has no rule"
     print(f"reports: JUnit and TAP, {len(cases)} cases with their rules")
 
 
@@ -137,13 +137,13 @@ def test_sentence_table() -> None:
     for line in lines:
         before, _, of_clients = line.partition("client: ")
         for name in CASE_NAME.findall(before):
-            assert glob.glob(f"{sessions_folder()}/{name}.log"), f"the table names {name}"
+            assert glob.glob(f"{sessions_folder()}/{name}.log"), f"the table names {name}, which does not exist"
             count += 1
         for name in CASE_NAME.findall(of_clients):
-            assert fnmatch.filter(client_names, name), f"the table names client: {name}"
+            assert fnmatch.filter(client_names, name), f"the table names client: {name}, which does not exist"
             count += 1
-    assert count > 100, "the table's names"
-    print(f"the table names {count} cases, all exist")
+    assert count > 100, f"the table names only {count} cases"
+    print(f"the table names {count} cases, which all exist")
 
 
 def test_invalid_devices() -> None:

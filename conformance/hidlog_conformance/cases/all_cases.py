@@ -6,7 +6,7 @@ import os
 from typing import Dict, List
 
 from hidlog_conformance.cases import blobs, cbor, checks, ctap1, enroll, flows, fuzzed, lock, manage, order, pin
-from hidlog_conformance.cases import pin_length, power_cycle, recorded, settings, similar_ids, time, transport, truth
+from hidlog_conformance.cases import power_cycle, recorded, settings, similar_ids, time, transport, truth
 from hidlog_conformance.cases import user, variations
 from hidlog_conformance.cases.corpus import Case
 from hidlog_conformance.cases.steps import check_patterns, cite_step
@@ -27,7 +27,6 @@ MODULES = (
     flows,
     power_cycle,
     settings,
-    pin_length,
     enroll,
     ctap1,
     truth,

@@ -15,7 +15,7 @@ from hidlog_conformance.cases.corpus import (
     credential_name,
 )
 from hidlog_conformance.ctap_cbor import encode
-from hidlog_conformance.quantity import quantity
+from hidlog_conformance.text import quantity
 
 Asked = Dict[Any, Any]
 WRONG_TYPE_VALUES = "the standard defines the statuses, but not their order"

@@ -6,7 +6,7 @@ from typing import TYPE_CHECKING, Any, Dict, List, Optional, Sequence
 
 from hidlog_conformance import hid_packets as hid
 from hidlog_conformance.ctap_cbor import encode
-from hidlog_conformance.sections import SECTIONS
+from hidlog_conformance.rules import SECTIONS
 
 if TYPE_CHECKING:
     from typing_extensions import Self

@@ -11,8 +11,9 @@ from typing import Any, Dict, List, NamedTuple
 from hidlog_conformance import hid_packets as hid
 from hidlog_conformance.cases.corpus import Case
 from hidlog_conformance.paths import DATA
+from hidlog_conformance.session_file import read_sections
 
-FOLDER = os.path.join(DATA, "fuzzed")
+LOGS = os.path.join(DATA, "fuzzed", "findings.logs")
 PROFILE_CHOICE = "the standard does not say which of two errors is reported"
 
 
@@ -135,13 +136,11 @@ FUZZED_CASES = [
 ]
 
 
-def build_case(found: FuzzedCase) -> Case:
-    """Converts a finding to a case."""
+def build_case(found: FuzzedCase, lines: List[str]) -> Case:
+    """Converts a finding to a case, with the lines of its log."""
     more: Dict[str, Any] = {"needs": found.needs, "uses": found.uses, "profile": found.profile}
     case = Case(f"fuzzed/{found.name}", found.section, found.requirement, **more)
     case.comment("found: in the faulty authenticator " + found.fault)
-    with open(os.path.join(FOLDER, found.name + ".log"), encoding="utf-8") as file:
-        lines = file.read().splitlines()
     assert max(found.expects) == len(lines), (found.name, len(lines))
     for number, line in enumerate(lines, 1):
         case.lines.append(line)
@@ -156,4 +155,5 @@ def build_case(found: FuzzedCase) -> Case:
 
 def cases() -> List[Case]:
     """Returns the cases of this file."""
-    return [build_case(found) for found in FUZZED_CASES]
+    logs = read_sections(LOGS)
+    return [build_case(found, logs[found.name]) for found in FUZZED_CASES]

@@ -7,7 +7,7 @@ from typing import Any, Dict, List
 from hidlog_conformance import hid_packets as hid
 from hidlog_conformance.cases.corpus import KIND, NEXT, RESET, Case, descriptor, user
 from hidlog_conformance.cases.flows import NEW_TOUCH, EMPTY, COUNTER_INCREASES, TOUCH, register_three_users
-from hidlog_conformance.quantity import quantity
+from hidlog_conformance.text import quantity
 
 EDDSA: Dict[str, Any] = {"needs": ["touch"], "uses": ["algorithm -8"]}
 BOTH: Dict[str, Any] = {"needs": ["touch"], "uses": ["algorithm -7", "algorithm -8"]}

@@ -7,7 +7,7 @@ from typing import Any, Dict, List
 from hidlog_conformance import hid_packets as hid
 from hidlog_conformance.cases.corpus import INFO, MAKE, NONCE, Case, count_bytes, registration_parameters
 from hidlog_conformance.ctap_cbor import encode
-from hidlog_conformance.quantity import quantity
+from hidlog_conformance.text import quantity
 
 UNALLOCATED_CHANNEL = 9
 SIZES = (0, 1, 2, 56, 57, 58, 59, 115, 116, 117, 118, 174, 175, 176, 256, 512, 1023, 1024, 2048, 4096, 7549, 7550, 7551)

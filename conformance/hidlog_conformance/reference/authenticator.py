@@ -12,7 +12,7 @@ from typing import Any, Dict, List, Optional
 from hidlog_conformance.answers import is_before_ctap_2_1
 from hidlog_conformance.ctap_cbor import encode
 from hidlog_conformance.reference import requests
-from hidlog_conformance.reference.active_request import ActiveRequest, Pending
+from hidlog_conformance.reference.requests import ActiveRequest, Pending, Requests
 from hidlog_conformance.reference.bio import BioEnrollment
 from hidlog_conformance.reference.config import Config
 from hidlog_conformance.reference.credential import Attestor, Credential, new_key
@@ -21,7 +21,6 @@ from hidlog_conformance.reference.large_blobs import LargeBlobs
 from hidlog_conformance.reference.management import Management
 from hidlog_conformance.reference.pin import AUTH_INVALID, CONFIGURE, ENROLL, GET, GET_USER_RETRIES, MAKE, MANAGE
 from hidlog_conformance.reference.pin import NOT_SET, SHORTEST_PIN, USER_TOKEN, WRITE, Pin, RequestError
-from hidlog_conformance.reference.requests import Requests
 from hidlog_conformance.reference.traits import DeviceTraits
 from hidlog_conformance.reference.transport import Transport, Work
 from hidlog_conformance.reference.u2f import U2f

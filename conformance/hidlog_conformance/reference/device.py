@@ -1,13 +1,15 @@
-"""The reference authenticator as a device under test in this process. Its time is the log's."""
+"""The reference authenticator as a device under test in this process, with the time of the log, and as a key that keeps
+its state across cases, like a hardware key."""
 
 from __future__ import annotations
 
 from collections import deque
-from typing import Any, Callable, Deque, Optional, Tuple
+from typing import Any, Callable, Deque, Dict, Optional, Tuple
 
 from hidlog_conformance.devices import Device
 from hidlog_conformance.reference.authenticator import Authenticator
 from hidlog_conformance.reference.traits import DeviceTraits
+from hidlog_conformance.reference.u2f import RECENT
 
 Change = Callable[[Authenticator], None]
 
@@ -98,3 +100,36 @@ class ReferenceDevice(Device):
         if not self.packets:
             self.work()
         return self.packets.popleft() if self.packets else None
+
+
+class PersistentKey(ReferenceDevice):
+    """The reference authenticator, whose state only authenticatorReset clears. It counts touches."""
+
+    lasting = True
+    fresh = False
+    features: Tuple[str, ...] = ("touch", "two channels", "power cycle")
+
+    def __init__(self, change: Optional[Change] = None, **traits: Any) -> None:
+        # Most keys do not store non-discoverable credentials.
+        chosen: Dict[str, Any] = {"capacity": 100000, **traits}
+        super().__init__(DeviceTraits(**chosen), change)
+        self.touches = self.unplugged = 0
+        super().start()
+
+    def start(self) -> None:
+        """Begins a session at the time at which the last session ended."""
+        self.packets.clear()
+        self.at = 0
+        self.base = -self.authenticator.transport.at
+        # Between two cases a person takes longer than the time for which a touch counts.
+        self.authenticator.u2f.touched = -RECENT
+
+    def power_cycle(self, at: int) -> None:
+        """Power cycles the key; its clock starts over."""
+        self.unplugged += 1
+        super().power_cycle(at)
+
+    def presence(self, at: int, word: str) -> None:
+        """Counts a touch."""
+        self.touches += word == "granted"
+        super().presence(at, word)

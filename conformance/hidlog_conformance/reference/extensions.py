@@ -11,7 +11,7 @@ from hidlog_conformance.reference.credential import Credential
 from hidlog_conformance.reference.pin import AUTH_INVALID, INVALID_PARAMETER, MISSING, RequestError
 
 if TYPE_CHECKING:
-    from hidlog_conformance.reference.active_request import ActiveRequest
+    from hidlog_conformance.reference.requests import ActiveRequest
     from hidlog_conformance.reference.authenticator import Authenticator
 
 LONGEST_BLOB, INVALID_OPTION = 32, 0x2C

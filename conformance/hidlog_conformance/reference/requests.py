@@ -1,10 +1,11 @@
-"""Parses requests for the reference authenticator."""
+"""Parses requests for the reference authenticator; requests in progress, and pending assertions."""
 
 from __future__ import annotations
 
 from typing import Any, Dict, List, Optional, Tuple
 
 from hidlog_conformance import ctap_cbor
+from hidlog_conformance.reference.credential import Credential
 from hidlog_conformance.reference.pin import MISSING, RequestError
 from hidlog_conformance.reference.traits import DeviceTraits
 
@@ -47,6 +48,27 @@ BLOBS.update({5: (bytes, False), 6: (int, False)})
 
 ENROLLMENT: Types = {1: (int, False), 2: (int, False), 3: (dict, False), 4: (int, False), 5: (bytes, False)}
 ENROLLMENT.update({6: (bool, False)})
+
+
+class ActiveRequest:
+    """A request in progress, and whether the user was present and verified."""
+
+    def __init__(self, at: int, channel: int, item: Dict[Any, Any], options: Dict[str, Any]) -> None:
+        self.at = at
+        self.channel = channel
+        self.item = item
+        self.options = options
+        self.present = False
+        self.verified = False
+
+
+class Pending:
+    """The pending assertions for authenticatorGetNextAssertion."""
+
+    def __init__(self, asked: ActiveRequest, left: List[Credential], at: int) -> None:
+        self.asked = asked
+        self.left = left
+        self.at = at
 
 
 class LooseReader(ctap_cbor.Reader):

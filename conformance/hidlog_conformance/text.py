@@ -1,4 +1,4 @@
-"""Escapes control and invisible characters in texts of devices and clients. XML's markup is left to the caller."""
+"""Formats numbers with their nouns, and escapes control and invisible characters in texts of devices and clients."""
 
 from __future__ import annotations
 
@@ -8,8 +8,13 @@ import unicodedata
 HIDDEN_CATEGORIES = ("Cc", "Cf", "Cs", "Co", "Cn", "Zl", "Zp")
 
 
+def quantity(count: int, noun: str, plural: str = "") -> str:
+    """Returns "1 byte", "2 bytes"; `plural` is for nouns whose plural is not the noun with an s."""
+    return f"{count} {noun}" if count == 1 else f"{count} {plural or noun + 's'}"
+
+
 def escape_text(text: str) -> str:
-    """Returns the text with control and invisible characters escaped."""
+    """Returns the text with control and invisible characters escaped. XML's markup is left to the caller."""
     parts = []
     for letter in text:
         if unicodedata.category(letter) in HIDDEN_CATEGORIES:
