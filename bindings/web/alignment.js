@@ -1,5 +1,5 @@
-// Aligns two logs line by line: which lines correspond, and where the logs first differ. Timestamps, ticks, comments
-// and needs are not compared. Sets `globalThis.hidlogAlignment`.
+// Aligns two logs line by line: which lines correspond, and how they differ. Only packets and replies are compared,
+// without their timestamps. Sets `globalThis.hidlogAlignment`.
 "use strict";
 
 (() => {
@@ -7,12 +7,12 @@
     // Maximum number of lines of each log that are aligned at once. The time grows with the product of both numbers.
     const MAX_ALIGNED_LINES = 400;
     const COMMANDS_WITH_CODE = [CBOR, ERROR, KEEPALIVE];
-    const TIME = /^([>pks]) \d+ /;
+    const TIMESTAMP_PREFIX = /^([>pks]) \d+ /;
     const INITIALIZATION = 0x80;
 
     /**
-     * The compared parts of a line: `place` is the index, `text` is the text without the timestamp, `shape` is the kind
-     * of line with its command and code, and `group` is only the kind or command.
+     * The compared parts of a line: `place` is the index, and `text` is the text without the timestamp. `group` is the
+     * kind of line, with a packet's command; `shape` also has a packet's code, or the words of another line.
      * @typedef {{ place: number, text: string, shape: string, group: string }} Compared
      */
 
@@ -36,12 +36,12 @@
      * @param {Viewer.Session} session
      * @returns {Compared[]}
      */
-    const listLines = (session) => {
+    const listComparedLines = (session) => {
         const found = [];
         for (let place = 0; place < session.size; place += 1) {
             if (COMPARED_KINDS.includes(session.kindAt(place))) {
                 const line = session.line(place);
-                found.push({ place, text: line.text.toLowerCase().replace(TIME, "$1 "), ...findShape(line) });
+                found.push({ place, text: line.text.toLowerCase().replace(TIMESTAMP_PREFIX, "$1 "), ...findShape(line) });
             }
         }
         return found;
@@ -122,7 +122,7 @@
      * @param {Viewer.Session} one @param {Viewer.Session} other
      */
     const align = function* aligning(one, other) {
-        const [ones, others] = [listLines(one), listLines(other)];
+        const [ones, others] = [listComparedLines(one), listComparedLines(other)];
         /** @type {Viewer.Pair[]} */
         const pairs = [];
         let same = 0;

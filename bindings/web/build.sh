@@ -3,8 +3,8 @@
 # key/version.js, and the bundles of dist/: the key with the WebAssembly module, the code that the key shares with the
 # viewer, and the code of the page and of its worker, with the rules of `judge`.
 #
-#     bindings/web/build.sh            writes them
-#     bindings/web/build.sh --check exits with 1 if one of them is out of date
+#     bindings/web/build.sh            writes the scripts
+#     bindings/web/build.sh --check    exits with 1 if one of them is out of date
 #
 # esbuild bundles and minifies the sources. The output differs between versions of esbuild, so Debian 12's version is
 # required. Exits with 3 if esbuild is missing.
@@ -45,10 +45,10 @@ bundle() {
 globalThis.$global ??= (() => { \"use strict\";" --footer:js="return $global; })();"
 }
 bundle hidlogBytes bytes.js standard.js inflate.js >"$work/dist/bytes.js"
-bundle hidlogWasmKey wasm_key.js play_line.js >"$work/dist/wasm_key.js"
+bundle hidlogWasmKey wasm_key.js >"$work/dist/wasm_key.js"
 bundle hidlogKey index.js >"$work/dist/security_key.js"
 # The rules of `judge`, translated from Python, are appended to their runtime.
-rules=(quantity hid_packets ctap_cbor curve sanitize skipped certificates answers init_response sections rules
+rules=(text hid_packets ctap_cbor certificates answers rules
     requests transactions check_credential_management judged_log judged_parts judged_stored judged_settings judged_u2f
     judged_statuses judged_answers judged_host judged_errors judged_missing judged_key judged_report)
 {
@@ -58,11 +58,11 @@ rules=(quantity hid_packets ctap_cbor curve sanitize skipped certificates answer
 # The minified code of the page, which the page needs to save itself and to start its worker. Class names are kept,
 # since the rules print them.
 sources=(
-    index.html viewer.css dist/bytes.js captures.js file_kinds.js pasted_text.js file_input.js core.js log.js
+    index.html viewer.css dist/bytes.js captures.js file_kinds.js file_input.js core.js log.js
     transactions.js session.js explain.js show_text.js difference.js cbor_spans.js fields.js field_tree.js hex_pane.js
     copying.js detail.js rows.js row_layout.js narrative.js sequence_diagram.js worker.js save.js viewer.js alignment.js
     two_logs.js menu.js incomplete.js diagnosis.js diagnosis_card.js opening.js ui_events.js dist/judge.js judge.js
-    dist/wasm_key.js causes.js diagnosis_work.js
+    dist/wasm_key.js diagnosis_work.js
 )
 for name in "${sources[@]}"; do
     from=bindings/web/$name

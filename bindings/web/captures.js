@@ -8,6 +8,7 @@
     /** @type {Record<string, [boolean, number]>} */
     const PCAP_FORMATS = { d4c3b2a1: [true, 1000], a1b2c3d4: [false, 1000], "4d3cb2a1": [true, 1e6], a1b23c4d: [false, 1e6] };
     const SECTION_HEADER = "0a0d0d0a";
+    // Length of the header before the data of a USB transfer, by link type: two of usbmon, and USBPcap (its minimum).
     /** @type {Record<number, number>} */
     const HEAD_BYTES = { 189: 48, 220: 64, 249: 27 };
     const LINK_USBPCAP = 249;
@@ -83,7 +84,7 @@
     };
 
     /**
-     * The frames of a pcapng file.
+     * The frames of a pcapng file, up to the first invalid or truncated block.
      * @param {Uint8Array} bytes
      * @returns {Generator<Frame, void, void>}
      */

@@ -93,7 +93,7 @@
     };
 
     /**
-     * The item at an offset, or null if the item is not valid in CTAP2.
+     * The item at an offset, or null if it is truncated, nested too deeply, tagged or of indefinite length.
      * @param {Uint8Array} bytes @param {number} at @returns {Viewer.Span | null}
      */
     const findSpans = (bytes, at) => {

@@ -179,10 +179,10 @@
     };
 
     /** @type {Promise<Viewer.Core> | null} */
-    let made = null;
+    let loading = null;
 
     /** Loads the core. All callers share one instance, since calls keep no state. */
-    const load = () => (made ??= instantiate());
+    const load = () => (loading ??= instantiate());
 
     globalThis.hidlog = { load, formatError };
 })();

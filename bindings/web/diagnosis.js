@@ -26,12 +26,12 @@
         host: "The host", key: "The key", user: "The user", caller: "The caller", capture: "The capture",
         none: "Nobody",
     };
-    const RETRY_AFTER = "Wait for the response to the pending request, then send this one again.";
+    const RETRY_ADVICE = "Wait for the response to the pending request, then send this one again.";
     /** @type {Record<number, string>} */
     const CAUSE_ADVICE = {
         [CAUSE.WRONG_NUMBER]: "Send each message's packets in order, without gaps: one may have been lost.",
         [CAUSE.TIMED_OUT]: "Send the rest of a message at once.",
-        [CAUSE.BUSY_ELSEWHERE]: RETRY_AFTER, [CAUSE.BUSY_HERE]: RETRY_AFTER,
+        [CAUSE.BUSY_ELSEWHERE]: RETRY_ADVICE, [CAUSE.BUSY_HERE]: RETRY_ADVICE,
         [CAUSE.NOT_CANONICAL]: "Encode the request as CTAP2 canonical CBOR: sorted map keys, shortest heads.",
         [CAUSE.NO_ALGORITHM]: "Offer ES256 (-7) in pubKeyCredParams.",
         [CAUSE.DENIED]: "Try again, and touch the key.",
@@ -158,7 +158,7 @@
         const finding = examined.findings.find(isViolation);
         const reasons = finding ? [`Line ${finding.line} violates a rule.`, ...formatReasons(finding)] : [];
         return {
-            level: "fault", side: "key", line: difference.marked, title: "sent something else than the verified key",
+            level: "fault", side: "key", line: difference.marked, title: "sent something other than the verified key",
             why: [difference.sentence, ...reasons], advice: finding ? ADVICE.key : ADVICE.differs,
         };
     };
@@ -298,14 +298,14 @@
 
     // Number of transactions at the end of a log that are searched for an open one. A host waits for a response before
     // it sends the next request.
-    const MAX_SEARCHED = 16;
+    const MAX_SEARCHED_TRANSACTIONS = 16;
 
     /**
      * Describes the request that has no response yet, if any.
      * @param {Viewer.Session} session
      */
     const describeOpenRequest = (session) => {
-        const last = Array.from({ length: Math.min(MAX_SEARCHED, session.transactions) }, (_, at) =>
+        const last = Array.from({ length: Math.min(MAX_SEARCHED_TRANSACTIONS, session.transactions) }, (_, at) =>
             session.transaction(session.transactions - 1 - at));
         const open = last.find(({ end }) => end === "unanswered" || end === "not whole");
         return open ? [`The log ends before the response to the ${describeKind(open)} of line ${open.line.number}.`] : [];
@@ -338,7 +338,8 @@
     };
 
     /**
-     * A list with a sentence on the first MUST violation by a side other than the verdict's, or an empty list.
+     * A list with a sentence on the first MUST violation by a side other than the verdict's. Empty if there is none, or
+     * if the capture is at fault.
      * @param {Viewer.Checked} examined
      * @param {Viewer.Verdict} verdict
      */

@@ -17,6 +17,7 @@
     // For logs with more bytes, the card shows progress, and the first results before the rules are checked.
     const MAX_QUICK_BYTES = 256 * 1024;
     const MAX_LISTED_FINDINGS = 200;
+    // HIDLOG_ERR_MISMATCH.
     const MISMATCH = 3;
 
     /**

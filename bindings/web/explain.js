@@ -12,7 +12,7 @@
     // Maximum number of lines whose explanations are cached as strings.
     const MAX_CACHED = 4096;
     const decoder = new TextDecoder();
-    // The texts for a line that is not explained yet, and for a line that is too long to explain.
+    // The texts for a line that is not explained yet, and for a line without an explanation, since the log is too long.
     /** @type {Viewer.Words} */
     const PENDING_TEXT = { head: "…", below: [] };
     /** @type {Viewer.Words} */

@@ -8,7 +8,7 @@
      * @typedef {{ field: Viewer.Field, at: number, count: number, around: Viewer.Field | null }} Shown
      */
 
-    let made = 0;
+    let treeCount = 0;
 
     // The positions at which a long row of hexadecimal digits may break: after every eight digits.
     const DIGIT_BREAKS = /(?<=(?:[0-9a-f]{8})+)(?=[0-9a-f]{8})/g;
@@ -33,8 +33,8 @@
             this.chosen = null;
             /** @type {Shown[]} */
             this.shown = [];
-            made += 1;
-            this.prefix = `field-${made}-`;
+            treeCount += 1;
+            this.prefix = `field-${treeCount}-`;
             this.element = Object.assign(document.createElement("span"), { className: "fields", tabIndex: 0 });
             this.element.setAttribute("role", "tree");
             this.element.setAttribute("aria-label", "Fields");

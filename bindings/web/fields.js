@@ -11,7 +11,7 @@
     // Bytes before a packet's data (CTAP 2.1, section 11.2.4).
     const [FIRST_HEAD, NEXT_HEAD] = [7, 5];
     // The ranges of fields in authenticator data (WebAuthn, section 6.1). A credential ID follows its length.
-    const AUTH_DATA = new Map([["rpIdHash", [0, 32]], ["flags", [32, 33]], ["signCount", [33, 37]], ["aaguid", [37, 53]]]);
+    const AUTH_DATA_RANGES = new Map([["rpIdHash", [0, 32]], ["flags", [32, 33]], ["signCount", [33, 37]], ["aaguid", [37, 53]]]);
     const [ID_LENGTH_AT, ID_AT] = [53, 55];
     // The fields in the data of messages without CBOR (CTAP 2.1, section 11.2.9), by command and by whether the key
     // sent the message.
@@ -22,8 +22,8 @@
             ["capabilities", 16, 17]],
         [`${KEEPALIVE} key`]: [["status", 0, 1]], [`${ERROR} key`]: [["code", 0, 1]],
     };
-    const HEX = /(?:^|[ '])((?:[0-9a-f]{2}){4,})(?:$|[ '])/;
-    const MEMBER = /^ *(-?\d+|\w+)/;
+    const HEX_VALUE = /(?:^|[ '])((?:[0-9a-f]{2}){4,})(?:$|[ '])/;
+    const MEMBER_NAME = /^ *(-?\d+|\w+)/;
 
     /** The packets of a message, and the positions of the message's data in the packets. */
     class MessageBytes {
@@ -120,7 +120,7 @@
      * @returns {Part | null}
      */
     const findInAuthData = (data, start, name) => {
-        const fixed = AUTH_DATA.get(name);
+        const fixed = AUTH_DATA_RANGES.get(name);
         if (fixed) {
             return { from: start + fixed[0], to: start + fixed[1] };
         }
@@ -140,7 +140,7 @@
      * @returns {Part | null}
      */
     const findPart = (data, around, line) => {
-        const name = MEMBER.exec(line)?.[1] ?? "";
+        const name = MEMBER_NAME.exec(line)?.[1] ?? "";
         const { span } = around;
         const entry = span?.major === MAP && span.inner.find(({ key }) => key === name || key === JSON.stringify(name));
         if (entry) {
@@ -150,7 +150,7 @@
         if (inData) {
             return inData.to <= around.to ? inData : null;
         }
-        const hex = HEX.exec(line)?.[1] ?? "";
+        const hex = HEX_VALUE.exec(line)?.[1] ?? "";
         const at = hex ? findBytes(data, hex, around) : -1;
         return at < 0 ? null : { from: at, to: at + hex.length / 2 };
     };
@@ -221,6 +221,7 @@
         addInnerFields(bytes, fields, span);
         return { fields, packets: bytes.packets, size: bytes.size };
     };
+
     /**
      * Adds inner fields, read from the CBOR, to the members whose maps or arrays the explanation shows on one line.
      * @param {MessageBytes} bytes
@@ -230,7 +231,7 @@
     const addInnerFields = (bytes, fields, span) => {
         const members = fields.find(({ level, text }) => level === 1 && /^(request|answer) /.test(text))?.inner ?? [];
         for (const member of members.filter(({ inner }) => !inner.length)) {
-            const name = MEMBER.exec(member.text)?.[1];
+            const name = MEMBER_NAME.exec(member.text)?.[1];
             const entry = span?.inner.find(({ key }) => key === name);
             if (entry && [ARRAY, MAP].includes(entry.major)) {
                 Object.assign(member, { inner: makeInnerFields(bytes, entry, member.level + 1), isOpen: false });
@@ -239,7 +240,7 @@
     };
 
     /**
-     * The fields of several messages, with an empty line between them, and their packets.
+     * The fields of several messages, and their packets.
      * @param {Viewer.Message[]} messages @param {(message: Viewer.Message) => string[]} explain
      */
     const makeAllFields = (messages, explain) => {

@@ -4,7 +4,8 @@
 
 (() => {
     const { toHex } = globalThis.hidlogBytes;
-    const FIRST_BYTES = 4096;
+    // Number of bytes at the start of a file that are decoded to recognize it.
+    const MAX_EXAMINED_BYTES = 4096;
     const OPEN_LOG = "Open a session log or a USB capture.";
     const OPEN_SOURCE = "Open the log from which it was made.";
     /** @type {[front: string, name: string][]} */
@@ -62,7 +63,7 @@
         try {
             // With `stream`, an incomplete character at the end of the part is not an error.
             const decoder = new TextDecoder("utf-8", { fatal: true });
-            const text = decoder.decode(bytes.subarray(0, FIRST_BYTES), { stream: true });
+            const text = decoder.decode(bytes.subarray(0, MAX_EXAMINED_BYTES), { stream: true });
             return /[^\P{Cc}\t\n\r]/u.test(text) ? null : text;
         } catch {
             return null;
@@ -90,8 +91,8 @@
         return importable ? new UnreadableFileError(`the file is ${importable[1]}`, "", true) : null;
     };
 
-    // A line of a log that is not a comment.
-    const RECORD = /^(?:(?:> \d+|<) [0-9a-f]{128}|[tpks] \d+(?: .*)?)$/i;
+    // A packet, or another input of a log.
+    const PACKET_OR_INPUT = /^(?:(?:> \d+|<) [0-9a-f]{128}|[tpks] \d+(?: .*)?)$/i;
     // Number of hexadecimal digits of a packet, and maximum number of characters of a line in a message.
     const [PACKET_DIGITS, MAX_SHOWN] = [128, 60];
 
@@ -134,7 +135,7 @@
         }
         const [line, next = ""] = text.split("\n").slice(countComments(bytes));
         const shown = line.length > MAX_SHOWN ? `${line.slice(0, MAX_SHOWN)}…` : line;
-        const mistake = explainLine(line) || (RECORD.test(next) ? "its beginning is missing" : "");
+        const mistake = explainLine(line) || (PACKET_OR_INPUT.test(next) ? "its beginning is missing" : "");
         const fault = `${globalThis.hidlog.formatError(outcome)}: ${mistake || `“${shown}”`}`;
         throw new UnreadableFileError(`not a session log: ${fault}`, "Copy the whole log.", !mistake);
     };

@@ -1,5 +1,5 @@
-// Finds out whether a recording is incomplete, if this explains a difference from what the key sends: the end, the
-// beginning or packets of the host are missing. Sets `globalThis.hidlogIncomplete`.
+// Finds out whether a recording is incomplete (the end, the beginning or packets of the host are missing), if this
+// explains a difference from what the key sends, or a violated rule. Sets `globalThis.hidlogIncomplete`.
 "use strict";
 
 (() => {

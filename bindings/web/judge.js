@@ -13,7 +13,8 @@
     const toFinding = ({ line, side, level, section, also, rule, expected, actual }) =>
         ({ line, side, level, section, relatedSections: also, rule, expected, actual });
 
-    // Minimum length of a part in bytes. The next part begins at the first line at which no transaction is open.
+    // Maximum length of a part in bytes, which ends after the last line at which no transaction is open. If there is no
+    // such line, the length is doubled.
     const PART_BYTES = 1024 * 1024;
     // Recorders' notes about lost packets or gaps. A log with such notes is checked as a whole.
     const GAP_NOTES = /^# (?:power cycle|cut to )/m;
@@ -54,7 +55,7 @@
     };
 
     /**
-     * The end of the last line that begins before an offset.
+     * The offset after the line that has the byte at an offset.
      * @param {Uint8Array} log
      * @param {number} from
      */

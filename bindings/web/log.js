@@ -17,7 +17,7 @@
     const NEWLINE = 10;
 
     /** The value of a hex digit by character code; 16 or more for others. */
-    const digits = Uint8Array.from({ length: 256 }, (_, code) => {
+    const hexDigitValues = Uint8Array.from({ length: 256 }, (_, code) => {
         const value = parseInt(String.fromCharCode(code), 16);
         return Number.isNaN(value) ? 99 : value;
     });
@@ -165,10 +165,11 @@
         }
     }
 
-    // Only lines of a quiet log have these members: the replaced line, and its text.
+    // Only lines that replace ignored inputs have the first two: the replaced line, and its text. Only an invalid line
+    // is a fault.
     Object.assign(Line.prototype, { source: null, replaced: undefined, isFault: false });
 
-    /** A line of a quiet log, which may replace an ignored input. */
+    /** A line in the output of `hidlog quiet` that replaces an ignored input. */
     class QuietLine extends Line {
         get source() {
             return /** @type {Viewer.Log} */ (this.log.before).line(
@@ -431,7 +432,7 @@
          */
         byte(line, place) {
             const at = this.endOf(line) - PACKET_DIGITS + 2 * place;
-            return digits[this.bytes[at]] * 16 + digits[this.bytes[at + 1]];
+            return hexDigitValues[this.bytes[at]] * 16 + hexDigitValues[this.bytes[at + 1]];
         }
 
         /** @param {number} line */
@@ -489,7 +490,7 @@
     };
 
     globalThis.hidlogLog = {
-        NEWLINE, takeFirstLines, hasMatch, iterateTexts, Log, KeyMessage, Column, Transaction, digits, readTimestamp, PACKET_DIGITS,
+        NEWLINE, takeFirstLines, hasMatch, iterateTexts, Log, KeyMessage, Column, Transaction, hexDigitValues, readTimestamp, PACKET_DIGITS,
         KIND: { HOST, KEY, TICK, PRESENCE, NEW_KEY, SIGNATURE, COMMENT, NEED, COUNT, EMPTY },
         END: { ANSWERED, REFUSED, TIMED_OUT, REPLACED, DROPPED, FORGOTTEN, UNKNOWN },
         // CTAPHID commands (CTAP 2.1, section 11.2.9).

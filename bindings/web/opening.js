@@ -162,8 +162,8 @@
     };
 
     /**
-     * The error of a long log: the core's error, or the first invalid line that was found while reading if the core
-     * stopped before.
+     * The error of a long log: the core's, or if the core reports none at a line, that of the first line that was found
+     * invalid while reading.
      * @param {{ invalidLineNumber: number, outcome: Viewer.Fault }} reader
      * @returns {Viewer.Fault}
      */

@@ -42,7 +42,7 @@
         ].join("\n");
         const own = `globalThis.HIDLOG_SOURCES = ${JSON.stringify(packed)};`;
         const named = Array.from(sources["index.html"].matchAll(SCRIPT_TAG), ([, file]) => file);
-        // The saved page contains the module of the key's script, but not the key.
+        // The saved page has the WebAssembly module in wasm.js, so the script of the key is left out.
         /** @type {Record<string, string>} */
         const made = { "dist/security_key.js": "", "wasm.js": wasmText, "dist/sources.js": own };
         const texts = named.map((file) => made[file] ?? sources[file]);
@@ -50,7 +50,7 @@
     };
 
     /**
-     * Makes the page as one file, whose Content-Security-Policy allows only the scripts in the file.
+     * Makes the page as one file, whose Content-Security-Policy allows only the scripts in the file, and its workers.
      * @param {Viewer.SavedState} state
      */
     const makePage = async (state) => {

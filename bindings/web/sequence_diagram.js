@@ -9,7 +9,7 @@
     const MAX_CHANNELS = 6;
 
     /**
-     * Places the lifelines in a width. Channels beyond the maximum number share the last lifeline.
+     * Places the lifelines in a width. Channels beyond the maximum number share the first lifeline.
      * @param {string[]} channels
      * @param {number} width
      * @returns {Viewer.Lifelines}
@@ -150,7 +150,7 @@
     };
 
     /**
-     * A row's text, shortened.
+     * A row's text without a leading "CBOR LENGTH" or "KEEPALIVE 1 STATUS".
      * @param {string} text
      */
     const shortenText = (text) => text.replace(/^CBOR \d+ {2}|^KEEPALIVE 1 \d\d {2}/, "");

@@ -3,7 +3,7 @@
 "use strict";
 
 (() => {
-    const { Log, Transaction, KIND, NEWLINE, PACKET_DIGITS, digits, readTimestamp } = globalThis.hidlogLog;
+    const { Log, Transaction, KIND, NEWLINE, PACKET_DIGITS, hexDigitValues, readTimestamp } = globalThis.hidlogLog;
     const { TableFiller } = globalThis.hidlogTransactions;
     const decoder = new TextDecoder();
     const SPACE = 32;
@@ -31,7 +31,7 @@
             return false;
         }
         for (let at = from; at < to; at += 1) {
-            if (digits[bytes[at]] > 15) {
+            if (hexDigitValues[bytes[at]] > 15) {
                 return false;
             }
         }
@@ -179,7 +179,7 @@
     /** A session: the valid lines of a log, the number of transactions, and the first invalid line, if any. */
     class Session {
         /**
-         * `channels` has only the first ones; `channelCount` is the number of all.
+         * `channels` has at most MAX_CHANNELS channels; `channelCount` is the number of all channels in the log.
          * @param {Viewer.Log} log
          * @param {Pick<Viewer.Session, "size" | "channels" | "channelCount" | "transactions">} counts
          */

@@ -4,11 +4,11 @@
 (() => {
     const COMMAND_CBOR = 0x10;
     const COMMANDS_WITH_NAMES = [0x3b, 0x3f];
-    const PACKET = /^(?:> \d+|<) [0-9a-f]{8} /;
+    const PACKET_PREFIX = /^(?:> \d+|<) [0-9a-f]{8} /;
     const LAST_WORD = / {2}(\w+)$/;
     // The RP ID in an explained request, a string in diagnostic notation: a backslash escapes quotes and backslashes.
     const RP_ID = /^ {2}(?:1 rpId: |2 rp: \{"id": )"((?:[^"\\]|\\.)*)"/;
-    const ESCAPE = /\\(["\\])/g;
+    const ESCAPED_CHARACTER = /\\(["\\])/g;
     const { Explained, explain, explainFirst } = globalThis.hidlogExplained;
 
     /**
@@ -95,8 +95,8 @@
                 // Only logs longer than `atOnce` are explained here. With `atOnce`, the caller also sets `work`.
                 const job = log.bytes.length > this.most ? makeTooLongJob()
                     : /** @type {NonNullable<Viewer.TextOptions["work"]>} */ (this.work)(log.bytes);
-                job.done = job.outcome.then((found) => this.take(log, job, new Explained(found, true)), (error) =>
-                    this.take(log, job, new Explained(/** @type {Viewer.Explained} */ (log.explained), true), error));
+                job.done = job.outcome.then((found) => this.finishJob(log, job, new Explained(found, true)), (error) =>
+                    this.finishJob(log, job, new Explained(/** @type {Viewer.Explained} */ (log.explained), true), error));
                 this.jobs.set(log, job);
             }
             return /** @type {Promise<void>} */ (/** @type {Viewer.TextJob} */ (this.jobs.get(log)).done);
@@ -109,7 +109,7 @@
          * @param {Error | null} error
          * @this {Viewer.LineTexts}
          */
-        take(log, job, explained, error = null) {
+        finishJob(log, job, explained, error = null) {
             if (this.jobs.get(log) === job) {
                 this.jobs.delete(log);
                 log.explained = explained;
@@ -160,7 +160,7 @@
          * @this {Viewer.LineTexts}
          */
         rest(line) {
-            return this.words(line).head.replace(PACKET, "");
+            return this.words(line).head.replace(PACKET_PREFIX, "");
         }
 
         /**
@@ -218,7 +218,7 @@
          */
         requestRpId(transaction) {
             const { below } = this.words(/** @type {Viewer.Line} */ (transaction.lines.at(-1)));
-            return below.map((line) => RP_ID.exec(line)?.[1].replace(ESCAPE, "$1")).find(Boolean);
+            return below.map((line) => RP_ID.exec(line)?.[1].replace(ESCAPED_CHARACTER, "$1")).find(Boolean);
         }
 
         /**

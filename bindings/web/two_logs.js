@@ -10,8 +10,8 @@
     const difference = globalThis.hidlogDifference;
     const detail = globalThis.hidlogDetail;
     const [ROW_HEIGHT, STACKED_HEIGHT] = [26, 50];
-    const OTHER_KIND = /^(differs|first only|second only)$/;
-    const NAMES = { own: "The first log", other: "The second log" };
+    const KIND_DIFFERENCE = /^(differs|first only|second only)$/;
+    const LOG_NAMES = { own: "The first log", other: "The second log" };
 
     /** The other log, the pairs of lines, and the selected pair. */
     const two = {
@@ -27,7 +27,7 @@
     const getRowHeight = () => (globalThis.matchMedia("(max-width: 700px)").matches ? STACKED_HEIGHT : ROW_HEIGHT);
 
     /**
-     * The lines of a pair, or null.
+     * The lines of a pair; null for the log that lacks one.
      * @param {number} place
      */
     const getLines = (place) => {
@@ -109,7 +109,7 @@
         const found = { has, sends, says: `${numbers}: ${word}`, explained };
         /** @type {(isMarked: (line: string) => boolean) => HTMLElement} */
         const makeTree = (isMarked) => detail.makeTree(row, state.shown, isMarked);
-        getElement("detail-text").replaceChildren(...difference.makeNodes(found, makeTree, NAMES));
+        getElement("detail-text").replaceChildren(...difference.makeNodes(found, makeTree, LOG_NAMES));
     };
 
     /**
@@ -170,7 +170,7 @@
             return "Both logs have the same packets and replies.";
         }
         const [one, other] = getLines(two.pairs.indexOf(first)).map((line) => (line ? `line ${line.number}` : "no line"));
-        const kinds = differing.filter(({ word }) => OTHER_KIND.test(word)).length;
+        const kinds = differing.filter(({ word }) => KIND_DIFFERENCE.test(word)).length;
         return `First difference: ${one} of ${state.name} and ${other} of ${two.name}, ${first.word}. ${differing.length} of`
             + ` ${two.pairs.length} lines differ, ${kinds} in kind. Timestamps are not compared.`;
     };
@@ -218,7 +218,7 @@
         Home: () => select(0),
         End: () => select(two.pairs.length - 1),
         n: () => selectNext(Boolean),
-        k: () => selectNext((word) => OTHER_KIND.test(word)),
+        k: () => selectNext((word) => KIND_DIFFERENCE.test(word)),
     };
 
     const start = () => {

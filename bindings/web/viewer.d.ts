@@ -4,7 +4,7 @@ declare namespace Viewer {
     /** A range of bytes, in all packets of the shown messages one after another. */
     interface ByteRange { from: number, to: number }
     interface Packet { number: number, bytes: Uint8Array }
-    /** A line of an explanation: its level from 1, its bytes, and whether its inner ones are shown. */
+    /** A line of an explanation: its level from 1, its bytes, and whether its inner fields are shown. */
     interface Field {
         text: string, level: number, ranges: ByteRange[], inner: Field[], isOpen: boolean, isMarked?: boolean,
     }
@@ -50,7 +50,7 @@ declare namespace Viewer {
     }
     /** An explanation: a head, and the lines below it. */
     interface Words { head: string, below: string[] }
-    /** The core's explanations, with where each line's begins and which lines have more of it later. */
+    /** The core's explanations, where each line's begins, and which continue after a later line. */
     interface OutputIndex { text: Uint8Array, starts: Numbers, later: Map<number, number>, sure: number }
     interface Explained extends OutputIndex {
         isLast: boolean, read: Map<number, Words>, has(place: number): boolean, words(place: number): Words,
@@ -74,7 +74,7 @@ declare namespace Viewer {
     interface LineTexts extends Required<TextOptions> {
         core: Core, jobs: Map<Log, TextJob>, explained(log: Log): Explained, ready(logs: Log[]): Promise<void> | null,
         readyEach(logs: Log[]): Promise<void>, explaining(log: Log): Promise<void>,
-        take(log: Log, job: TextJob, explained: Explained, error?: Error | null): void,
+        finishJob(log: Log, job: TextJob, explained: Explained, error?: Error | null): void,
         keep(kept: Log[], logs: Log[]): void,
         endAll(): void, words(line: Line): Words, rest(line: Line): string, name(message: Message): string,
         says(line: Line): string, title(transaction: Transaction): string,
@@ -106,8 +106,8 @@ declare namespace Viewer {
         session(size?: number): Session, soFar(): Session, outcome?: FoundTransactions,
     }
     /**
-     * What the page shows. `core` and `shown` are null until the core is loaded, and `bytes` until a log is open; what
-     * needs them is not called before.
+     * What the page shows. `core` and `shown` are null until the core is loaded, and `bytes` until a log is open;
+     * functions that need them are not called before.
      */
     interface State {
         core: Core, shown: LineTexts, bytes: Uint8Array, name: string, snapshot: Uint8Array, snapshotName: string,
@@ -123,7 +123,7 @@ declare namespace Viewer {
         drawing: HTMLCanvasElement, file: FileInput, fold: HTMLInputElement, "keys-dialog": HTMLDialogElement,
         "other-file": FileInput, save: HTMLButtonElement, search: HTMLInputElement, view: HTMLSelectElement,
     }
-    /** An event of the page, whose target is an element. Others than fields have no `type`. */
+    /** An event of the page, whose target is an element. Only a field has a `type`. */
     type On<Kind extends Event, Target = HTMLElement & { type?: string }> = Kind & { target: Target };
     type ElementOf<Id> = Id extends keyof Elements ? Elements[Id] : HTMLElement;
     /** The core's transactions of a log, or why there are none. */
@@ -159,7 +159,7 @@ declare var hidlogLog: {
     END: Record<"ANSWERED" | "REFUSED" | "TIMED_OUT" | "REPLACED" | "DROPPED" | "FORGOTTEN" | "UNKNOWN", number>,
     Log: new (bytes: Uint8Array) => Viewer.Log, Column: new (Type: Viewer.NumbersConstructor) => Viewer.Column,
     Transaction: new (log: Viewer.Log, place: number) => Viewer.Transaction,
-    KeyMessage: new (log: Viewer.Log, place: number) => Viewer.KeyMessage, digits: Uint8Array,
+    KeyMessage: new (log: Viewer.Log, place: number) => Viewer.KeyMessage, hexDigitValues: Uint8Array,
     takeFirstLines(bytes: Uint8Array, count: number): Uint8Array, hasMatch(bytes: Uint8Array, pattern: RegExp): boolean,
     iterateTexts(bytes: Uint8Array): Iterable<Viewer.TextPart>,
     readTimestamp(bytes: Uint8Array, from: number, to: number): { at: Viewer.Milliseconds, next: number } | null,
@@ -188,7 +188,6 @@ declare var hidlogFileKinds: {
     countComments(bytes: Uint8Array): number,
     findKindError(bytes: Uint8Array): Error | null,
 };
-declare var hidlogPastedText: { restoreLog(bytes: Uint8Array): { bytes: Uint8Array, changes: string[] } };
 declare var hidlogFileInput: {
     readFile(bytes: Uint8Array, most: number): Promise<{ logs: Viewer.NamedLog[], changes: string[] }>,
 };
@@ -211,7 +210,7 @@ declare namespace Viewer {
     }
     interface Work<Result> extends Job { outcome: Promise<Result> }
     interface TableFiller { isDone: boolean, fillUntil(end: number): void }
-    /** What rows to make: `isFound` selects them, once `ready` is fulfilled. */
+    /** Which rows to make. `isFound` selects them, after `ready` is fulfilled. */
     interface RowOptions {
         isFolded: boolean, unfolded: Set<number>, isFound: ((row: number) => boolean) | null,
         ready?: Promise<unknown> | null,
@@ -230,7 +229,7 @@ declare namespace Viewer {
     interface Examined extends Compared, Judged {}
     interface Progress { stage: string, share?: number, compared?: Compared }
 }
-/** Of the browser, and not yet in the types of this TypeScript. */
+/** A class of browsers that the types of TypeScript lack. */
 declare class DecompressionStream {
     constructor(format: string);
     readonly readable: ReadableStream<Uint8Array>;
@@ -285,7 +284,7 @@ declare var hidlogBackground: {
         done: (result: Result) => void, milliseconds?: number): Viewer.Job,
     prepareSources(): Promise<void>, readSources(): Record<string, string>, runInWorker: Viewer.RunInWorker,
 };
-/** How a line of a log and one of another differ: both lines, a sentence, and their explanations. */
+/** How a line of a log differs from a line of another log: both lines, a sentence, and their explanations. */
 interface Difference extends DifferingLines { says: string, explained: string[][] }
 interface DifferingLines { has: Viewer.Line | null | undefined, sends: Viewer.Line | null | undefined }
 declare var hidlogDifference: {
@@ -313,9 +312,9 @@ declare namespace Viewer {
     interface Verdict { level: string, side: Side, line: number, title: string, why: string[], advice: string }
     /** What a recording lacks, why that is so, and what to do. */
     interface Missing { title: string, why: string, advice: string }
-    /** What was found in a log, at least as far as its difference from what the key sends. */
+    /** The results of an examination, without the totals. */
     type Checked = Omit<Examined, "total">;
-    /** A difference from what the key sends, in a sentence, and whether it rejects what the log accepts. */
+    /** A difference from what the key sends, in a sentence, and whether the log also reports NO_CREDENTIALS there. */
     interface KeyDifference extends FoundDifference { sentence: string, isRejection: boolean }
     interface ShownLog { session: Session, shown: LineTexts, difference: KeyDifference | null }
     /** What a sequence diagram draws: rows from `first` on, at their places, and the chosen one. */
@@ -378,21 +377,18 @@ declare var hidlogWasmKey: {
     WasmKey: new (exports: Record<string, any>, snapshot: Uint8Array) => Viewer.WasmKey,
     playLine(key: Viewer.WasmKey, line: string): void,
 };
-declare var hidlogCauses: {
-    findCauses(core: Viewer.Core, log: Uint8Array, snapshot: Uint8Array, report?: Viewer.Report): Viewer.Rejection[],
-};
 declare var hidlogSave: { makePage(state: Viewer.SavedState): Promise<string> };
 declare namespace Viewer {
     interface SavedState { name: string, bytes: Uint8Array, snapshot: Uint8Array }
 }
 /** The rules translated from Python (dist/judge.js): their objects have Python's attributes. */
 declare var hidlogPython: any;
-/** Runs rules, for which signatures are verified meanwhile. */
+/** Runs the rules, and verifies the signatures that they check. */
 declare function hidlogVerified(rules: () => any): Promise<any>;
 declare var HIDLOG_SOURCES: string;
 declare var HIDLOG_WASM: string;
 declare var HIDLOG_EXAMPLE: string;
-/** Those of a saved page: its log, the log's name, and the snapshot with which it is played, if any. */
+/** Globals of a saved page: its log, the log's name, and the snapshot with which it is played, if any. */
 declare var HIDLOG_LOG: string | undefined;
 declare var HIDLOG_LOG_NAME: string;
 declare var HIDLOG_SNAPSHOT: string | undefined;

@@ -9,7 +9,7 @@
     const MAX_BYTES = 1024 * 1024 * 1024;
     // Explaining a log needs five times its length in memory.
     const MAX_EXPLAINED_BYTES = 700 * 1024 * 1024;
-    // Maximum number of milliseconds for which a letter of a search may block the page.
+    // Maximum number of milliseconds for which a letter that is typed into the search field may block the page.
     const SEARCH_MS = 30;
     const CALLER_KINDS = ["presence", "new key", "signature"];
     const SHOWN_KINDS = ["host", "key", "comment", "need"];
@@ -63,7 +63,10 @@
             this.differs = isMarked && !transaction;
         }
 
-        /** @this {Viewer.Row} The finding in the row's line, or in a line of its transaction, in words; or "". */
+        /**
+         * The finding in the row's line, or in a line of its transaction, in words; or "".
+         * @this {Viewer.Row}
+         */
         get mark() {
             const { line, transaction } = this;
             if (!transaction) {
@@ -87,18 +90,27 @@
             return CALLER_KINDS.includes(line.kind) ? `${line.kind}: ${line.says}` : escapeInvisible(line.says);
         }
 
-        /** @this {Viewer.Row & { transaction: Viewer.Transaction }} The kind and result of a transaction, in words. */
+        /**
+         * The kind and result of a transaction, in words.
+         * @this {Viewer.Row & { transaction: Viewer.Transaction }}
+         */
         get outcome() {
             const rp = state.shown.requestRpId(this.transaction);
             return `${describeKind(this.transaction)}: ${describeEnd(this.transaction)}${rp ? ` at ${escapeInvisible(rp)}` : ""}`;
         }
 
-        /** @this {Viewer.Row} Whether it is a transaction that did not succeed. */
+        /**
+         * Whether the row is a transaction that did not succeed.
+         * @this {Viewer.Row}
+         */
         get isRefused() {
             return Boolean(this.transaction) && !isSuccessful(/** @type {Viewer.Transaction} */ (this.transaction));
         }
 
-        /** @this {Viewer.Row} The messages of a transaction, or that of a packet, if any. */
+        /**
+         * The messages of a transaction, or the message of a packet; empty if there is none.
+         * @this {Viewer.Row}
+         */
         get messages() {
             const { line, transaction } = this;
             if (transaction) {
@@ -109,7 +121,10 @@
             return message && !line.isFault ? [message] : [];
         }
 
-        /** @this {Viewer.Row} Its explanation, in lines. */
+        /**
+         * The lines of the explanation.
+         * @this {Viewer.Row}
+         */
         detail() {
             if (this.transaction) {
                 return this.messages.flatMap((message) => [...state.shown.message(message), ""]);
@@ -126,7 +141,7 @@
         }
     }
 
-    /** Returns the row of a line index, or of a folded transaction if the number is negative. */
+    /** Returns the row of a line index, or of transaction `-1 - number` if the number is negative. */
     const makeRowFromNumber = (/** @type {number} */ number) => {
         const transaction = number < 0 ? getCurrentSession().transaction(-1 - number) : null;
         return /** @type {Viewer.Row} */ (
@@ -343,7 +358,7 @@
         return reader;
     });
 
-    /** Reads the quiet log. Each replaced line refers to the input that it replaces. */
+    /** Reads the output of `hidlog quiet`. A line that replaces an ignored input refers to the input. */
     const readQuietInSlices = /** @type {Viewer.ReadQuiet} */ (function* readingQuiet(bytes, recorded) {
         const reader = yield* readInSlices(bytes);
         const { log } = reader;

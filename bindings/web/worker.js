@@ -31,8 +31,8 @@
 
     /**
      * Runs all steps of a generator in slices, and calls `done` with the result. If the first slice suffices, `done` is
-     * called synchronously. Between slices, `part` is called with the last step's value. If the value is a promise, it
-     * is awaited, and the next step receives the result. `milliseconds` is the time of the first slice. Returns a job
+     * called synchronously. Between slices, `part` is called with the last step's value, unless that is a promise: a
+     * promise ends the slice and is awaited, and the next step receives its result. `milliseconds` is the time of the first slice. Returns a job
      * that can be ended.
      * @template Part, Result
      * @param {Generator<Part, Result, any>} steps
@@ -77,7 +77,7 @@
     /** @type {Record<string, string[]>} */
     const EXTRA_SCRIPTS = {
         judge: ["dist/judge.js", "judge.js"],
-        examine: ["dist/judge.js", "judge.js", "dist/wasm_key.js", "causes.js", "diagnosis_work.js"],
+        examine: ["dist/judge.js", "judge.js", "dist/wasm_key.js", "diagnosis_work.js"],
     };
     const WORKER_SCRIPT = `
         const run = async (core, { command, length, snapshot }) => {
@@ -185,10 +185,10 @@
     };
 
     /**
-     * Runs a command on a log in a worker, or in this thread if workers are not available. The command is a command of
-     * the core, `judge` (judge.js) or `examine` (diagnosis_work.js). `onProgress` is called with the progress of
-     * `examine`. Returns a promise of the result, which for `show` is an index (explain.js), and a function that ends
-     * the work.
+     * Runs a command on a log in a worker. The command is a command of the core, `judge` (judge.js) or `examine`
+     * (diagnosis_work.js). If workers are not available, only the core's commands run, in this thread. `onProgress` is
+     * called with the progress of `examine`. Returns a promise of the result, which for `show` is an index (explain.js),
+     * and a function that ends the work.
      * @param {Viewer.Core} core
      * @param {string} command
      * @param {Uint8Array} log

@@ -147,7 +147,7 @@ export interface Options extends AuthenticatorOptions {
 export interface Faults {
     /** Respond to every request with this status, a number or a name such as "KEY_STORE_FULL". */
     status: number | string | null;
-    /** Milliseconds before each response, with KEEPALIVEs. */
+    /** Milliseconds before each response that needs a key pair or a signature, with KEEPALIVEs. */
     delay: number;
     /** Number of bytes to remove from the end of each response. */
     truncateBy: number;

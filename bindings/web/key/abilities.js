@@ -17,7 +17,7 @@ const AUTOFILLS = ["selected", "automatic"];
 export const EXTENSIONS = ["prf", "largeBlob", "credProtect", "credBlob", "minPinLength"];
 const UUID = /^[0-9a-f]{8}(-[0-9a-f]{4}){3}-[0-9a-f]{12}$/;
 // Flags of enum hidlog_client_ability.
-const VERIFIES = 1;
+const HAS_USER_VERIFICATION = 1;
 const IS_PLATFORM = 4;
 const HAS_RESIDENT_KEY = 8;
 const HAS_CRED_PROTECT = 16;
@@ -53,7 +53,7 @@ const checkOption = (name, value) => {
 const checkCombination = ({ protocol, hasResidentKey, hasUserVerification, isUserVerified, algorithms }) => {
     checkType("algorithms", algorithms, algorithms.includes(ES256), `an array that includes ${ES256} (ES256)`);
     checkType("isUserVerified", isUserVerified, hasUserVerification || !isUserVerified,
-        "false: the key has no user verification, unless hasUserVerification is true");
+        "false for a key with no user verification (set hasUserVerification)");
     for (const [name, value] of Object.entries({ hasResidentKey, hasUserVerification })) {
         checkType(name, value, protocol !== U2F || !value, `false for the protocol ${U2F}`);
     }
@@ -64,14 +64,14 @@ export class AuthenticatorOptions {
 
     /** @param {Record<string, unknown>} options */
     constructor(options) {
-        this.take(options);
+        this.update(options);
     }
 
     /**
-     * Sets all options, or none if one is invalid.
+     * Sets the passed options, or none if one is invalid.
      * @param {Record<string, unknown>} options
      */
-    take(options) {
+    update(options) {
         checkMembers("option", options, AUTHENTICATOR_OPTION_NAMES);
         const present = Object.entries(options).filter(([, value]) => value !== undefined);
         present.forEach(([name, value]) => checkOption(name, value));
@@ -141,15 +141,16 @@ export class AuthenticatorOptions {
      * The abilities for the core's client. User verification counts as successful here; whether it succeeds is
      * determined later.
      */
-    get bits() {
+    get clientAbilities() {
         const { hasResidentKey, hasUserVerification } = this.#values;
-        return (hasUserVerification ? VERIFIES : 0) | (this.attachment === "platform" ? IS_PLATFORM : 0)
+        return (hasUserVerification ? HAS_USER_VERIFICATION : 0) | (this.attachment === "platform" ? IS_PLATFORM : 0)
             | (hasResidentKey ? HAS_RESIDENT_KEY : 0) | (this.supports("credProtect") ? HAS_CRED_PROTECT : 0)
             | (this.supports("largeBlob") ? HAS_LARGE_BLOB : 0);
     }
 
     /**
-     * A transport by its name in the core's client, which knows only USB and platform authenticators.
+     * Converts the name of a transport for the core's client, which knows only usb and internal: swaps the key's
+     * transport with the one of these that has the same attachment.
      * @param {string} name
      */
     toClientTransport(name) {

@@ -5,7 +5,7 @@ import { checkType } from "./argument_checks.js";
 import { decodeBase64url, isBuffer, toBase64url, toHex } from "./bytes.js";
 import { BE, BS, UV } from "./credential_metadata.js";
 import { isKeyError, shortenMessage } from "./errors.js";
-import { formatStatus } from "./statuses.js";
+import { formatStatus } from "./ctap_response.js";
 
 // Maximum number of calls in a report. Older calls are dropped.
 const MAX_CALLS = 40;
@@ -17,9 +17,9 @@ const SIGN_COUNT_OFFSET = 33;
 const SHOWN_CHARACTERS = 8;
 const SUCCESS_TEXTS = { create: "created a credential", get: "signed an assertion" };
 const REFUSAL_TEXTS = { create: "create a credential", get: "sign an assertion" };
+const SELECTION_PREFIX = "authenticatorSelection.";
 // The paths of the options that the report shows for a call.
-const SELECTION = "authenticatorSelection.";
-const OPTIONS = {
+const SHOWN_OPTIONS = {
     create: ["rp.id", "user.id", "authenticatorSelection.residentKey", "authenticatorSelection.requireResidentKey",
         "authenticatorSelection.userVerification", "authenticatorSelection.authenticatorAttachment", "attestation",
         "timeout", "challenge", "excludeCredentials"],
@@ -68,8 +68,8 @@ const describeOption = (path, publicKey) => {
  * The options that the report shows for a call, as the page passed them.
  * @param {Call} call
  */
-const describeOptions = ({ name, options }) => OPTIONS[name]
-    .map((path) => ({ path, label: path.replace(SELECTION, "") }))
+const describeOptions = ({ name, options }) => SHOWN_OPTIONS[name]
+    .map((path) => ({ path, label: path.replace(SELECTION_PREFIX, "") }))
     .filter(({ path, label }) => getOption(options?.publicKey, path) !== undefined || !RARE_OPTIONS.includes(label))
     .map(({ path, label }) => `${label} ${describeOption(path, options?.publicKey)}`).join(", ");
 
@@ -161,14 +161,14 @@ const describeEffects = (logs) => {
 
 /**
  * Calls a function when a test ends, if the test failed.
- * @param {any} context the context of a test: of Vitest, which has `onTestFailed`, or of node, which has `after` and
+ * @param {any} context the context of a test: Vitest's has `onTestFailed`, that of node's test runner `after` and
  * `passed`
  * @param {() => void} report
  */
 export const onTestFailed = (context, report) => {
     const isOfVitest = typeof context?.onTestFailed === "function";
     checkType("context", context, isOfVitest || (typeof context?.after === "function" && "passed" in context),
-        "the context of a test of Vitest, or of node 20.12 or later, such as the argument of beforeEach's function");
+        "the context that Vitest or the test runner of node 20.12 or later passes to a test or to beforeEach's function");
     if (isOfVitest) {
         context.onTestFailed(report);
     } else {
@@ -206,8 +206,10 @@ export class Activity {
     }
 
     /**
-     * Describes the last calls, and the faults that took effect or are enabled, one per line. Empty if there are none.
-     * @param {{ credentials: Credential[], faults: object, logs: string[] }} key @param {number} [from] calls to skip
+     * Describes the last calls, each in two lines, the second with its options, and the faults that took effect or are
+     * enabled, one per line. Empty if there are none.
+     * @param {{ credentials: Credential[], faults: object, logs: string[] }} key
+     * @param {number} [from] number of calls to skip
      */
     describe({ credentials, faults, logs }, from = 0) {
         const shown = this.#calls.slice(Math.max(0, this.#calls.length - (this.count - from)));

@@ -19,9 +19,9 @@ const NAMES = { [EDDSA]: "EdDSA", [RS256]: "RS256" };
  * The object identifiers in AlgorithmIdentifier, as DER (RFC 8410, RFC 8017).
  * @type {[number, Uint8Array][]}
  */
-const IDENTIFIERS = [[EDDSA, fromHex("06032b6570")], [RS256, fromHex("06092a864886f70d010101")]];
-// Maximum number of bytes before the AlgorithmIdentifier in PKCS #8, where a version precedes it, and in
-// SubjectPublicKeyInfo.
+const OBJECT_IDENTIFIERS = [[EDDSA, fromHex("06032b6570")], [RS256, fromHex("06092a864886f70d010101")]];
+// Number of bytes at the start of PKCS #8 or SubjectPublicKeyInfo that are searched for an object identifier. It ends
+// within these bytes for each of the algorithms.
 const FRONT_BYTES = 24;
 
 /** @param {number} algorithm */
@@ -34,7 +34,7 @@ export const formatAlgorithm = (algorithm) => `${NAMES[algorithm]} (${algorithm}
  */
 export const getAlgorithm = (der) => {
     const front = der.subarray(0, FRONT_BYTES);
-    const found = IDENTIFIERS.find(([, identifier]) =>
+    const found = OBJECT_IDENTIFIERS.find(([, identifier]) =>
         front.some((_, at) => equalBytes(front.subarray(at, at + identifier.length), identifier)));
     return found ? found[0] : ES256;
 };

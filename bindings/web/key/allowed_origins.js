@@ -33,7 +33,7 @@ export const readOrigin = (option) => {
 };
 
 /**
- * Whether a text is an origin. An origin with a scheme other than http and https must have a host.
+ * Whether a text is an origin. The origin of a scheme other than http and https is SCHEME://HOST.
  * @param {unknown} text
  */
 const isOrigin = (text) => {

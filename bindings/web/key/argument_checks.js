@@ -46,7 +46,7 @@ export const warnRenamed = (old, name) => {
 };
 
 /**
- * Returns options with the old names of options replaced.
+ * Returns options with old names replaced by the new ones, and warns once about each old name.
  * @param {Record<string, any>} options @param {Record<string, string>} names the new names, by the old ones
  */
 export const renameOptions = (options, names) =>

@@ -11,7 +11,7 @@ export const ROOT_CERTIFICATE = "MIIB8TCCAZigAwIBAgIBATAKBggqhkjOPQQDAjBeMQswCQY
     + "DwEB/wQEAwIBBjAdBgNVHQ4EFgQULd+rLj9QoFwwj+H4OERMd9xKuHcwCgYIKoZIzj0EAwIDRwAwRAIgBm+aVfSGfCMd1sKw51G+"
     + "YmsXYFvl6/v9SjVnyzoC2kICIA7M3qWGf+g7cobvcmQiwSE5lf6gQTO832kocg80sr+n";
 
-/** The certificate has no AAGUID extension, so that the key may have any AAGUID. */
+/** The attestation certificate. It has no AAGUID extension, so that the key may have any AAGUID. */
 export const CERTIFICATE = "MIIB9jCCAZugAwIBAgIBAjAKBggqhkjOPQQDAjBeMQswCQYDVQQGEwJVUzEQMA4GA1UECgwHQ29ndHppbDESMBAGA1UECwwJVGVz"
     + "dCBSb290MSkwJwYDVQQDDCBoaWRsb2cgdGVzdCByb290LCBmb3IgdGVzdHMgb25seTAgFw0yMDAxMDEwMDAwMDBaGA8yMDk5MTIz"
     + "MTAwMDAwMFowdTELMAkGA1UEBhMCVVMxEDAOBgNVBAoMB0NvZ3R6aWwxIjAgBgNVBAsMGUF1dGhlbnRpY2F0b3IgQXR0ZXN0YXRp"
@@ -20,6 +20,6 @@ export const CERTIFICATE = "MIIB9jCCAZugAwIBAgIBAjAKBggqhkjOPQQDAjBeMQswCQYDVQQG
     + "A1UdEwEB/wQCMAAwHwYDVR0jBBgwFoAULd+rLj9QoFwwj+H4OERMd9xKuHcwCgYIKoZIzj0EAwIDSQAwRgIhAIhkW9iQijFE4Ih6"
     + "9n7Yz5EPP8Pvf+2kAsysXQerDPMeAiEAvzRBagJXViuwhmgmOkKdWIo+qy7R/HFVAAwgEigYAIg=";
 
-/** PKCS #8. */
+/** The private key of the attestation certificate, in PKCS #8. */
 export const PRIVATE_KEY = "MIGHAgEAMBMGByqGSM49AgEGCCqGSM49AwEHBG0wawIBAQQglgZQ8CETKczyz7RNWGl044QPyxydmSlEP1IT6L5QVOahRANCAARL"
     + "Ipj++Jq+CZ6hOiS19SDH+QxJjMmBgF5jpzNQTJP9620WMhUbpw8JktptVM9k4uhR1psdDxIHsh65P7Y/jt1M";

@@ -1,11 +1,10 @@
 // Sends CTAP2 requests over CTAPHID to the verified core, provides what the core needs, and returns the responses.
 import { concatBytes, toHex } from "./bytes.js";
-import { changeResponse } from "./ctap_response.js";
+import { changeResponse, formatStatus } from "./ctap_response.js";
 import { MessageReassembler } from "./packets.js";
 import { throwIfAborted, clearInterval, sleepUnlessAborted, setInterval, raceWithSignal } from "./platform.js";
 import { Recordings } from "./recordings.js";
 import { BROADCAST, CANCEL, CBOR, INIT, KEEPALIVE_MS } from "./standard.js";
-import { formatStatus } from "./statuses.js";
 
 // The first channel that the key allocates. There is no other host.
 const CHANNEL = 1;
@@ -19,7 +18,7 @@ const NONCE = Uint8Array.of(0, 1, 2, 3, 4, 5, 6, 7);
  * @typedef {object} PageRequest a request of the page in progress
  * @property {AbortSignal} signal aborts it
  * @property {() => Promise<string>} ask asks the user
- * @property {(id: Uint8Array) => void} made is called with the ID of a new key pair
+ * @property {(id: Uint8Array) => void} onCreated is called with the ID of a new key pair
  * @property {boolean} isVerified whether the user is verified
  * @property {import("./core_additions.js").CoreAdditions} additions its features outside the core
  * @property {() => Promise<void>} enter is called before the credentials change, and may start another session
@@ -78,9 +77,9 @@ export class Authenticator {
      * Continues a recording from storage.
      * @param {import("./recordings.js").StoredRecordings} kept @param {Uint8Array} snapshot
      */
-    take(kept, snapshot) {
+    continueStored(kept, snapshot) {
         this.#cancel();
-        this.#recordings.take(kept, snapshot);
+        this.#recordings.continueStored(kept, snapshot);
         this.#collector = new MessageReassembler(CHANNEL);
     }
 
@@ -139,7 +138,7 @@ export class Authenticator {
             message = await this.#askUser(bytes, turn);
         }
         if (!message && this.faults.delay) {
-            this.session.recording.addComment(`fault: ${this.faults.delay} ms pass before the answer`);
+            this.session.recording.addComment(`fault: the response is delayed by ${this.faults.delay} ms`);
             await this.#withTicks(sleepUnlessAborted(this.faults.delay, turn.signal), turn.signal);
             throwIfAborted(turn.signal);
         }
@@ -176,12 +175,12 @@ export class Authenticator {
      * @param {PageRequest} turn
      */
     async #provide(turn) {
-        const { signal, made, additions } = turn;
+        const { signal, onCreated, additions } = turn;
         const { need } = this.session;
         if (need.kind === "key") {
             const pair = await raceWithSignal(this.privateKeys.make(additions.algorithm), signal);
             throwIfAborted(signal);
-            made(pair.id);
+            onCreated(pair.id);
             return this.session.provideKeyPair(pair);
         }
         if (need.kind === "signature") {

@@ -8,7 +8,7 @@ import { encodeClientData, makeCrossOriginMembers } from "./frames.js";
 import { replaceCredentialIds, dropListInputs } from "./key_extensions.js";
 
 const PUBLIC_KEY = "public-key";
-const LISTS = { create: "excludeCredentials", get: "allowCredentials" };
+const LIST_NAMES = { create: "excludeCredentials", get: "allowCredentials" };
 // Maximum length of a credential ID in a request. A longer ID is sent as its hash, which is not known yet when the
 // client checks the options.
 const MAX_SENT_ID_BYTES = 64;
@@ -70,7 +70,7 @@ export class Ceremony {
         this.origin = origin;
         this.#abilities = abilities;
         this.#isNarrowed = isNarrowed;
-        const listed = options[LISTS[name]] ?? [];
+        const listed = options[LIST_NAMES[name]] ?? [];
         /** @type {Uint8Array[]} the credential IDs of the page's list */
         this.ids = listed.filter((/** @type {any} */ { type }) => type === PUBLIC_KEY)
             .map((/** @type {any} */ { id }) => id);
@@ -88,14 +88,14 @@ export class Ceremony {
      * @param {Uint8Array[]} ids
      */
     #makeCall(ids) {
-        const { extensions, [LISTS[this.name]]: listed, ...rest } = this.options;
+        const { extensions, [LIST_NAMES[this.name]]: listed, ...rest } = this.options;
         const left = [...ids];
         const descriptors = listed?.map((/** @type {any} */ { id, type, transports }) => ({
             id: type === PUBLIC_KEY ? left.shift() : "", type,
             transports: transports?.map(this.#abilities.toClientTransport, this.#abilities),
         }));
         const options = {
-            ...rest, [LISTS[this.name]]: descriptors, timeout: undefined,
+            ...rest, [LIST_NAMES[this.name]]: descriptors, timeout: undefined,
             // The client rejects credProps in a sign-in, even if its value is false.
             extensions: extensions && {
                 ...this.#makeInputs(extensions, ids), credProps: extensions.credProps || undefined,
@@ -104,7 +104,7 @@ export class Ceremony {
         if (this.algorithm !== ES256) {
             options.pubKeyCredParams = [{ type: PUBLIC_KEY, alg: ES256 }];
         }
-        return new ClientCall(this.name, options, this.mediation, this.origin, this.#abilities.bits);
+        return new ClientCall(this.name, options, this.mediation, this.origin, this.#abilities.clientAbilities);
     }
 
     /**

@@ -3,14 +3,14 @@
 import { decodeUtf8, encodeUtf8, toBase64url } from "./bytes.js";
 import { instantiateCore } from "./core_module.js";
 import { makeClientError } from "./errors.js";
-import { growMemory } from "./wasm_memory.js";
+import { growMemory } from "./wasm_key.js";
 
 // Values of enum hidlog_client_ceremony.
 const CEREMONIES = { create: 0, get: 1 };
 const REPORT_BYTES = 16;
 const MAX_OUTPUT_BYTES = 16384;
-// Maximum lengths of a value for the client, in bytes and in base64url. Each UTF-16 unit of a text has at most three
-// bytes in UTF-8.
+// Maximum numbers of bytes of a value for the client: of a buffer, and of a text, such as a buffer in base64url. Each
+// UTF-16 unit of a text has at most three bytes in UTF-8.
 export const MAX_BUFFER_BYTES = 1536;
 const MAX_TEXT_BYTES = 2048;
 const MAX_TEXT_UNITS = Math.floor(MAX_TEXT_BYTES / 3);
@@ -30,7 +30,7 @@ const shorten = (text) =>
     (text.length > MAX_TEXT_UNITS && encodeUtf8(text).length > MAX_TEXT_BYTES ? text.slice(0, MAX_TEXT_UNITS) : text);
 
 /**
- * Encodes options as JSON, with buffers in base64url.
+ * Encodes options as JSON, with buffers in base64url. Buffers and texts that are too long for the client are shortened.
  * @param {object} options
  */
 const encodeJson = (options) => encodeUtf8(JSON.stringify(options, (_, value) => {

@@ -20,9 +20,9 @@ const ATTESTATION_REQUESTS = ["indirect", "direct", "enterprise"];
 /** @typedef {{ format: "self" | "none" | "basic", aaguid: Uint8Array }} Attestation */
 
 /**
- * The attestation that a page gets. As in Chromium, an attestation that the page does not request is replaced by
- * "none", and the AAGUID is cleared unless the key is a platform authenticator (WebAuthn Level 3, section 5.1.3, step
- * 22).
+ * The attestation that a page gets. As in Chromium, an attestation "basic" that the page does not request is replaced
+ * by "none", and the AAGUID is then cleared unless the key is a platform authenticator (WebAuthn Level 3, section 5.1.3,
+ * step 22).
  * @param {AuthenticatorOptions} abilities @param {string | undefined} requested
  * @returns {Attestation}
  */
@@ -68,7 +68,7 @@ export class CoreAdditions {
      * Stores the data of a new credential that is outside the core.
      * @param {Uint8Array} id
      */
-    made(id) {
+    storeCreated(id) {
         this.#metadata.setBackup(id, this.#abilities.backup);
         const { options, isDiscoverable } = this.#ceremony;
         this.#metadata.setExtensions(id, makeExtensionData(options, this.#abilities, isDiscoverable));

@@ -99,7 +99,7 @@ export class CredentialMetadata {
     }
 
     /**
-     * The flags to set in the authenticator data that a credential signs.
+     * The flags to set in the authenticator data of a credential.
      * @param {Uint8Array} coreId @param {boolean} isVerified
      */
     flags(coreId, isVerified) {

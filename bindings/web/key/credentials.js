@@ -118,7 +118,8 @@ export class Credentials {
     }
 
     /**
-     * The row of a credential from `fromRow`, with its RP ID hash and the core's ID.
+     * Returns the row of a credential from `fromRow`, and stores what the core does not: its private key, names and
+     * metadata.
      * @param {import("./state.js").StoredCredential} credential @param {Uint8Array} rpIdHash @param {Uint8Array} id
      */
     toRow(credential, rpIdHash, id) {
@@ -151,7 +152,7 @@ export class Credentials {
     }
 
     /**
-     * The row of a new credential.
+     * Returns the row of a new credential, and stores its private key, names and metadata.
      * @param {any} credential @param {import("./abilities.js").AuthenticatorOptions} abilities
      * @returns {Promise<Row>}
      */
@@ -162,7 +163,7 @@ export class Credentials {
         const { userDisplayName = userName } = credential;
         const { backupEligibility = backup.eligibility, backupState = backup.state } = credential;
         checkValues({ signCount, userName, userDisplayName, isResidentCredential, backupEligibility, backupState });
-        checkType("rpId", rpId, typeof rpId === "string" && rpId !== "", "the RP ID");
+        checkType("rpId", rpId, typeof rpId === "string" && rpId !== "", "an RP ID, such as example.com");
         const { pageId, id } = this.#makeIds(credential.credentialId);
         const userId = toBytes("userHandle", credential.userHandle ?? "");
         checkType("userHandle", credential.userHandle, userId.length <= MAX_TEXT_BYTES, `at most ${MAX_TEXT_BYTES} bytes`);
@@ -171,7 +172,7 @@ export class Credentials {
             : await this.#importKey(credential.privateKey, abilities);
         const largeBlob = credential.largeBlob === undefined ? undefined : toBytes("largeBlob", credential.largeBlob);
         const isBlobOk = largeBlob === undefined || (abilities.supports("largeBlob") && isResidentCredential);
-        checkType("largeBlob", credential.largeBlob, isBlobOk, "missing, unless extensions has largeBlob and it is discoverable");
+        checkType("largeBlob", credential.largeBlob, isBlobOk, "absent, unless the key supports largeBlob and the credential is discoverable");
         const rpIdHash = await this.privateKeys.hash(encodeUtf8(rpId));
         this.privateKeys.set(id, privateKey);
         this.metadata.setPageId(id, pageId);
@@ -191,12 +192,12 @@ export class Credentials {
         const privateKey = await this.privateKeys.import(toBytes("privateKey", source));
         const { algorithm = ES256 } = privateKey;
         const isSupported = abilities.get("algorithms").includes(algorithm);
-        checkType("privateKey", algorithm, isSupported, "a P-256 key, or one of the option algorithms");
+        checkType("privateKey", algorithm, isSupported, "a P-256 key, or a key of an algorithm in the option algorithms");
         return privateKey;
     }
 
     /**
-     * Returns the rows with a further row.
+     * Returns the rows with a further row. If it is discoverable, it replaces a discoverable one of the same account.
      * @param {Row[]} rows @param {Row} row
      */
     with(rows, row) {
@@ -206,7 +207,7 @@ export class Credentials {
         }
         const kept = rows.filter((other) => !isSameAccount(other, row));
         if (kept.length >= MAX_CREDENTIALS) {
-            throw new RangeError(`the key has ${MAX_CREDENTIALS} credentials, the maximum (0x28 KEY_STORE_FULL)`);
+            throw new RangeError(`the key has ${MAX_CREDENTIALS} credentials, the maximum; remove one first (0x28 KEY_STORE_FULL)`);
         }
         return [...kept, row];
     }

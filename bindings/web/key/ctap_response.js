@@ -1,6 +1,8 @@
 // Changes the core's responses: the authenticator data, the attestation statement or the signature. The responses are
-// canonical CBOR, with the authenticator data in a byte string (CTAP 2.1, sections 6.1 and 6.2).
+// canonical CBOR, with the authenticator data in a byte string (CTAP 2.1, sections 6.1 and 6.2). Also formats status
+// codes.
 import { concatBytes, encodeUtf8, equalBytes } from "./bytes.js";
+import { STATUSES } from "./standard.js";
 
 const BYTES = 2;
 const TEXT = 3;
@@ -84,7 +86,17 @@ export const changeResponse = (response, change) => {
     if (!signature) {
         return concatBytes(front, encodeBytes(data), rest);
     }
-    // The member with the key 3: a signature of at most 72 bytes, whose length is in the second byte.
+    // The member with the key 3: a byte string of 24 to 72 bytes, whose length is in its second byte.
     const [key, , length] = rest;
     return concatBytes(front, encodeBytes(data), Uint8Array.of(key), encodeBytes(signature), rest.subarray(3 + length));
 };
+
+/** @type {Record<number, string>} */
+const STATUS_NAMES = STATUSES;
+
+/**
+ * A status code with its name (CTAP 2.1, section 8.2).
+ * @param {number} status
+ */
+export const formatStatus = (status) =>
+    `0x${status.toString(16).padStart(2, "0")} ${STATUS_NAMES[status] ?? ""}`.trimEnd();

@@ -49,7 +49,7 @@ const removeKey = () => {
 const parseAuthenticatorOptions = (options) => {
     checkMembers("virtual authenticator option", options, KNOWN_OPTIONS);
     for (const [name, value] of Object.entries(options).filter(([option]) => option in FIXED_OPTIONS)) {
-        checkType(name, value, value === FIXED_OPTIONS[name], `${FIXED_OPTIONS[name]}: this key supports nothing else`);
+        checkType(name, value, value === FIXED_OPTIONS[name], `${FIXED_OPTIONS[name]}, the only value that this key supports`);
     }
     const { protocol = "ctap2", ctap2Version = protocol, transport = "usb", hasUserVerification = false } = options;
     const named = protocol === "ctap2" ? ctap2Version : protocol;
@@ -76,7 +76,7 @@ const overrideBits = (/** @type {any} */ parameters) => {
     checkMembers("override", parameters, OVERRIDE_MEMBERS);
     requireInstalledKey().faults.badSignature = parameters.isBogusSignature ?? false;
     for (const name of OVERRIDE_MEMBERS.slice(2)) {
-        checkType(name, parameters[name], !parameters[name], "false: this key does not support it");
+        checkType(name, parameters[name], !parameters[name], "false, the only value that this key supports");
     }
 };
 

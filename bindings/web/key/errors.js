@@ -4,8 +4,8 @@
 export const makeDomError = (name, text) => new DOMException(text, name);
 
 /**
- * Returns a NotAllowedError, whose message does not disclose the reason to pages.
- * @param {string} why the reason, for readers of a test
+ * Returns a NotAllowedError with Chromium's message, which discloses no reason, and with the reason in parentheses.
+ * @param {string} why the reason, for readers of a test's output
  */
 export const makeNotAllowedError = (why) => makeDomError(
     "NotAllowedError",
@@ -96,7 +96,7 @@ const MESSAGES = {
     "the key holds a credential of excludeCredentials": "The user attempted to register an authenticator that contains"
         + " one of the credentials already registered with the relying party.",
 };
-const MAX_LIST_ERROR = "browsers take at most 64 credentials";
+const LIST_TOO_LONG_REASON = "browsers take at most 64 credentials";
 
 /**
  * Functions that make the errors for the client's error numbers (enum hidlog_client_error).
@@ -122,7 +122,7 @@ export const makeClientError = (number, member, reason) => {
     if (member === "origin") {
         return makeDomError("SecurityError", INVALID_DOMAIN);
     }
-    const make = CLIENT_ERRORS[number] ?? ((text) => new Error(`hidlog_client: error ${number} ${text}`));
-    return make(reason === MAX_LIST_ERROR
+    const make = CLIENT_ERRORS[number] ?? ((text) => new Error(`hidlog_client: unknown error ${number}: ${text}`));
+    return make(reason === LIST_TOO_LONG_REASON
         ? `The \`${member}\` attribute exceeds the maximum allowed size (64).` : MESSAGES[reason] ?? reason);
 };

@@ -3,7 +3,7 @@
 import { toHex, encodeUtf8 } from "./bytes.js";
 import { checkType, checkName, warnRenamed } from "./argument_checks.js";
 import { STATUSES } from "./standard.js";
-import { formatStatus } from "./statuses.js";
+import { formatStatus } from "./ctap_response.js";
 
 /** @type {Record<string, any>} */
 const FAULTS_OFF = {
@@ -71,10 +71,10 @@ const parseFault = (name, value) => {
  * The faults of a key, which are off at first.
  *
  * status: respond to every request with this status, a number or a name.
- * delay: milliseconds before each response, with KEEPALIVEs.
- * truncateBy: number of bytes to remove from the end of each response.
+ * delay: milliseconds before each response that needs a key pair or a signature, with KEEPALIVEs.
+ * truncateBy: number of bytes to remove from the end of each response, whose status remains.
  * badSignature: sign with a different private key.
- * staleSignCount: repeat the signature counter of the previous response, with a valid signature.
+ * staleSignCount: repeat the credential's previous signature counter, with a valid signature.
  * wrongRpId: the RP ID whose hash replaces the one in the authenticator data, with a valid signature.
  */
 export class Faults {
@@ -137,10 +137,10 @@ export class Faults {
         const { truncateBy, status } = this.values;
         if (truncateBy) {
             sent = sent.subarray(0, Math.max(1, sent.length - truncateBy));
-            recording.addComment(`fault: the answer is cut to ${sent.length} bytes`);
+            recording.addComment(`fault: the response is truncated to ${sent.length} bytes`);
         }
         if (status !== null) {
-            recording.addComment(`fault: the answer is status ${formatStatus(status)}`);
+            recording.addComment(`fault: the response has status ${formatStatus(status)}`);
             return Uint8Array.of(status);
         }
         return sent;

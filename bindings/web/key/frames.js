@@ -41,7 +41,7 @@ export const makeCrossOriginMembers = (origin) => {
 };
 
 /**
- * Rejects a cross-origin frame without permission.
+ * Rejects a cross-origin frame without permission, if the browser exposes its policy (document.featurePolicy).
  * @param {"create" | "get"} name @param {string} origin
  */
 export const checkPolicy = (name, origin) => {

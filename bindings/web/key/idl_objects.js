@@ -1,6 +1,7 @@
-// Creates objects of the interfaces that pages receive. As in browsers, the members are getters and functions on
-// prototypes. In a browser, the browser's own prototypes are used, whose members still work on the browser's own
-// objects. Elsewhere the types are created here.
+// Creates objects of the interfaces that pages receive, and credentials from their JSON. As in browsers, the members
+// are getters and functions on prototypes. In a browser, the browser's own prototypes are used, whose members still
+// work on the browser's own objects. Elsewhere the types are created here.
+import { decodeBase64url, toArrayBuffer } from "./bytes.js";
 
 /**
  * The interfaces by name: the parent, attributes and operations without arguments (Credential Management Level 1,
@@ -28,7 +29,7 @@ const INTERFACE_NAMES = Object.keys(INTERFACES);
  * The objects that were created here, with their types and members.
  * @type {WeakMap<object, { types: string[], members: any }>}
  */
-const made = new WeakMap();
+const ownObjects = new WeakMap();
 /**
  * The prototypes on which the members of their interface are defined.
  * @type {WeakSet<object>}
@@ -54,12 +55,12 @@ const listTypes = (name) => {
  * @param {any} object @param {string} type
  */
 const getMembers = (object, type) => {
-    const found = made.get(object);
+    const found = ownObjects.get(object);
     return found?.types.includes(type) ? found.members : undefined;
 };
 
 /**
- * Calls a function of the browser on its own object.
+ * Calls a function of the browser on an object that was not created here. Throws a TypeError if there is no function.
  * @param {Function | undefined} native @param {any} object
  */
 const callNative = (native, object) => {
@@ -161,12 +162,62 @@ export const defineAllMembers = () => INTERFACE_NAMES.forEach(defineMembers);
 export const makeObject = (type, members) => {
     defineMembers(type);
     const object = Object.create(getType(type).prototype);
-    made.set(object, { types: listTypes(type), members });
+    ownObjects.set(object, { types: listTypes(type), members });
     return object;
 };
 
 /**
- * Whether an object was made here.
+ * Whether an object was created here.
  * @param {any} object
  */
-export const isOwnObject = (object) => made.has(object);
+export const isOwnObject = (object) => ownObjects.has(object);
+
+/** @param {string} text base64url */
+const decode = (text) => toArrayBuffer(decodeBase64url(text));
+
+/** @template T @param {T} json @returns {T} */
+const copyJson = (json) => JSON.parse(JSON.stringify(json));
+
+/** @param {Record<string, string>} values */
+const decodeAll = (values) => Object.fromEntries(Object.entries(values).map(([name, text]) => [name, decode(text)]));
+
+/**
+ * Extension outputs, with base64url texts decoded to buffers.
+ * @param {any} results
+ */
+const decodeResults = ({ getCredBlob, prf, largeBlob, ...results }) => ({
+    ...copyJson(results), ...(getCredBlob !== undefined && { getCredBlob: decode(getCredBlob) }),
+    ...(prf && { prf: { ...prf, ...(prf.results && { results: decodeAll(prf.results) }) } }),
+    ...(largeBlob && { largeBlob: { ...largeBlob, ...(largeBlob.blob && { blob: decode(largeBlob.blob) }) } }),
+});
+
+/** @param {any} response the JSON of a registration's response */
+const makeAttestationResponse = (response) => {
+    const authenticatorData = decode(response.authenticatorData);
+    const publicKey = response.publicKey === undefined ? null : decode(response.publicKey);
+    return makeObject("AuthenticatorAttestationResponse", {
+        clientDataJSON: decode(response.clientDataJSON), attestationObject: decode(response.attestationObject),
+        getAuthenticatorData: () => authenticatorData, getPublicKey: () => publicKey,
+        getPublicKeyAlgorithm: () => response.publicKeyAlgorithm, getTransports: () => [...response.transports],
+    });
+};
+
+/** @param {any} response the JSON of a sign-in's response */
+const makeAssertionResponse = ({ clientDataJSON, authenticatorData, signature, userHandle }) =>
+    makeObject("AuthenticatorAssertionResponse", {
+        clientDataJSON: decode(clientDataJSON), authenticatorData: decode(authenticatorData),
+        signature: decode(signature), userHandle: userHandle === undefined ? null : decode(userHandle),
+    });
+
+/**
+ * The credential of a registration or a sign-in.
+ * @param {any} json
+ */
+export const makeCredential = (json) => {
+    const { id, type, authenticatorAttachment, response, clientExtensionResults } = json;
+    const makeResponse = "attestationObject" in response ? makeAttestationResponse : makeAssertionResponse;
+    return makeObject("PublicKeyCredential", {
+        id, type, authenticatorAttachment, rawId: decode(id), response: makeResponse(response),
+        getClientExtensionResults: () => decodeResults(clientExtensionResults), toJSON: () => copyJson(json),
+    });
+};

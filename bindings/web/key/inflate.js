@@ -31,15 +31,15 @@ class BitReader {
      * Reads bits, the lowest first.
      * @param {number} count
      */
-    bits(count) {
+    readBits(count) {
         let value = 0;
         for (let place = 0; place < count; place += 1) {
-            value |= this.next() << place;
+            value |= this.readBit() << place;
         }
         return value;
     }
 
-    next() {
+    readBit() {
         if (this.at >= this.data.length) {
             fail();
         }
@@ -53,10 +53,10 @@ class BitReader {
      * Decodes a symbol.
      * @param {Code} code
      */
-    symbol({ counts, symbols }) {
+    readSymbol({ counts, symbols }) {
         let [value, first, index] = [0, 0, 0];
         for (let length = 1; length <= LONGEST_CODE; length += 1) {
-            value |= this.next();
+            value |= this.readBit();
             if (value - counts[length] < first) {
                 return symbols[index + value - first];
             }
@@ -106,22 +106,22 @@ const FIXED_CODES = [
  * @param {BitReader} reader
  */
 const readDynamicCodes = (reader) => {
-    const [literals, distances, own] = [reader.bits(5) + 257, reader.bits(5) + 1, reader.bits(4) + 4];
+    const [literals, distances, own] = [reader.readBits(5) + 257, reader.readBits(5) + 1, reader.readBits(4) + 4];
     const ownLengths = new Uint8Array(CODE_LENGTH_ORDER.length);
     CODE_LENGTH_ORDER.slice(0, own).forEach((symbol) => {
-        ownLengths[symbol] = reader.bits(3);
+        ownLengths[symbol] = reader.readBits(3);
     });
     const ownCode = makeCode(ownLengths);
     /** @type {number[]} */
     const lengths = [];
     while (lengths.length < literals + distances) {
-        const symbol = reader.symbol(ownCode);
+        const symbol = reader.readSymbol(ownCode);
         if (symbol < 16) {
             lengths.push(symbol);
         } else if (symbol === 16) {
-            lengths.push(...repeat(lengths.at(-1) ?? fail(), reader.bits(2) + 3));
+            lengths.push(...repeat(lengths.at(-1) ?? fail(), reader.readBits(2) + 3));
         } else {
-            lengths.push(...repeat(0, symbol === 17 ? reader.bits(3) + 3 : reader.bits(7) + 11));
+            lengths.push(...repeat(0, symbol === 17 ? reader.readBits(3) + 3 : reader.readBits(7) + 11));
         }
     }
     return [makeCode(lengths.slice(0, literals)), makeCode(lengths.slice(literals, literals + distances))];
@@ -161,26 +161,26 @@ class Output {
 /** @param {BitReader} reader @param {Output} output */
 const readStoredBlock = (reader, output) => {
     reader.align();
-    const count = reader.bits(16);
-    if (reader.bits(16) !== (count ^ 0xffff)) {
+    const count = reader.readBits(16);
+    if (reader.readBits(16) !== (count ^ 0xffff)) {
         fail();
     }
     for (let left = count; left > 0; left -= 1) {
-        output.push(reader.bits(8));
+        output.push(reader.readBits(8));
     }
 };
 
 /** @param {BitReader} reader @param {Output} output @param {Code[]} codes */
 const readCompressedBlock = (reader, output, [literals, distances]) => {
-    for (let symbol = reader.symbol(literals); symbol !== END_OF_BLOCK; symbol = reader.symbol(literals)) {
+    for (let symbol = reader.readSymbol(literals); symbol !== END_OF_BLOCK; symbol = reader.readSymbol(literals)) {
         if (symbol < END_OF_BLOCK) {
             output.push(symbol);
             continue;
         }
         const place = symbol - END_OF_BLOCK - 1;
-        const count = LENGTH_BASES[place] + reader.bits(LENGTH_BITS[place] ?? fail());
-        const far = reader.symbol(distances);
-        output.copy(count, DISTANCE_BASES[far] + reader.bits(DISTANCE_BITS[far] ?? fail()));
+        const count = LENGTH_BASES[place] + reader.readBits(LENGTH_BITS[place] ?? fail());
+        const far = reader.readSymbol(distances);
+        output.copy(count, DISTANCE_BASES[far] + reader.readBits(DISTANCE_BITS[far] ?? fail()));
     }
 };
 
@@ -193,8 +193,8 @@ export const unpack = (packed) => {
     const output = new Output(new DataView(packed.buffer, packed.byteOffset).getUint32(0));
     let isLast = false;
     while (!isLast) {
-        isLast = reader.bits(1) === 1;
-        const kind = reader.bits(2);
+        isLast = reader.readBits(1) === 1;
+        const kind = reader.readBits(2);
         if (kind === STORED) {
             readStoredBlock(reader, output);
         } else if (kind === FIXED || kind === DYNAMIC) {

@@ -8,7 +8,7 @@ const [, WITH_LIST, VERIFIED] = [1, 2, 3];
 export const MAX_CRED_BLOB_BYTES = 32;
 const MIN_PIN_LENGTH = 4;
 const PRF_CONTEXT = encodeUtf8("WebAuthn PRF\0");
-const TRUE = Uint8Array.of(0xf5);
+const CBOR_TRUE = Uint8Array.of(0xf5);
 
 /** @typedef {import("./abilities.js").AuthenticatorOptions} AuthenticatorOptions */
 /** @typedef {import("./private_keys.js").PrivateKeys} PrivateKeys */
@@ -83,7 +83,7 @@ export const encodeRegistrationOutputs = ({ credBlob, credProtect }, extensions,
     /** @type {[string, Uint8Array][]} */
     const members = [];
     if (credBlob !== undefined) {
-        members.push(["credBlob", TRUE]);
+        members.push(["credBlob", CBOR_TRUE]);
     }
     if (credProtect) {
         members.push(["credProtect", encodeNumber(credProtect)]);

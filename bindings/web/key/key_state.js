@@ -1,10 +1,12 @@
-// The credentials and the recordings of a key, which are read from storage before a request of the page, and written
-// after it.
+// The clock, the credentials and the recordings of a key. The latter two are read from storage before a request of the
+// page, and written after it.
+import { checkType } from "./argument_checks.js";
 import { equalBytes } from "./bytes.js";
-import { createClock } from "./clock.js";
-import { encodeSnapshot } from "./snapshots.js";
+import { instantiateCore } from "./core_module.js";
+import { now } from "./platform.js";
 import { checkState, exportState, readRows, readTimeMs } from "./state.js";
 import { checkStorage, Store } from "./store.js";
+import { WasmKey } from "./wasm_key.js";
 
 /** @typedef {import("./authenticator.js").Authenticator} Authenticator */
 /** @typedef {import("./recordings.js").StoredRecordings} StoredRecordings */
@@ -13,6 +15,38 @@ import { checkStorage, Store } from "./store.js";
  * @typedef {{ snapshot: Uint8Array, kept: StoredRecordings | null, records: boolean }} Start the initial credentials, their
  * recordings in storage, and whether to record
  */
+
+/**
+ * Returns a clock whose timestamps never decrease. They are those of `clock`, or `startMs` plus the milliseconds since
+ * this call. The latest timestamp is stored in `state`.
+ * @param {((passed?: number) => number) | undefined} clock @param {number} startMs @param {{ timeMs: number }} state
+ */
+const createClock = (clock, startMs, state) => {
+    const start = now();
+    const read = clock ?? (() => Math.floor(now() - start) + startMs);
+    return (/** @type {number | undefined} */ passed) => {
+        const timeMs = read(passed);
+        checkType("the result of clock", timeMs, Number.isInteger(timeMs) && timeMs >= 0, "whole milliseconds");
+        state.timeMs = Math.max(state.timeMs, timeMs);
+        return state.timeMs;
+    };
+};
+
+/** @type {WasmKey | undefined} a key that is only used to write snapshots */
+let writer;
+
+/**
+ * Encodes a snapshot of these credentials, newest last (docs/use/PROFILE.md). A session starts with it.
+ * @param {Row[]} rows
+ */
+const encodeSnapshot = (rows) => {
+    if (!rows.length) {
+        return new Uint8Array(0);
+    }
+    writer ??= new WasmKey(instantiateCore(), new Uint8Array(0));
+    writer.setRows(rows);
+    return writer.snapshot();
+};
 
 export class KeyState {
     /** @type {Authenticator | null} */
@@ -88,7 +122,7 @@ export class KeyState {
         const stored = this.#store.readChanges();
         if (stored) {
             this.#time.timeMs = Math.max(this.#time.timeMs, readTimeMs(stored));
-            this.#take(readRows(stored, this.#credentials), stored.recordings);
+            this.#continueWith(readRows(stored, this.#credentials), stored.recordings);
         }
     }
 
@@ -96,10 +130,10 @@ export class KeyState {
      * Continues with other credentials, and with the recording that resulted in these credentials, if any.
      * @param {Row[]} rows @param {StoredRecordings} [recordings]
      */
-    #take(rows, recordings) {
+    #continueWith(rows, recordings) {
         const snapshot = encodeSnapshot(rows);
         if (recordings && this.#records) {
-            this.authenticator.take(recordings, snapshot);
+            this.authenticator.continueStored(recordings, snapshot);
         } else if (!equalBytes(snapshot, this.#snapshot)) {
             this.authenticator.begin(snapshot);
         }
@@ -139,7 +173,7 @@ export class KeyState {
     async change(change) {
         const release = await this.lock();
         try {
-            this.#take(await change(this.rows));
+            this.#continueWith(await change(this.rows));
         } finally {
             await release();
         }

@@ -15,14 +15,14 @@ const PKCS8_MIDDLE = fromHex("a14403420004");
  * @typedef {object} PrivateKey
  * @property {CryptoKey} [key]
  * @property {Uint8Array} pkcs8
- * @property {Uint8Array} x the public key that the core has
- * @property {Uint8Array} y
+ * @property {Uint8Array} x the x-coordinate of the public key that the core has
+ * @property {Uint8Array} y its y-coordinate
  * @property {number} [algorithm] if it is not ES256
  * @property {PrivateKey} [core] the core's private key, if this is of another algorithm
  */
 
 /**
- * Appends a positive integer as DER.
+ * Appends a non-negative integer as DER.
  * @param {number[]} to @param {Uint8Array} bytes
  */
 const appendDerInteger = (to, bytes) => {

@@ -44,13 +44,13 @@ export class Recording {
         this.#records = records;
     }
 
-    /** Number of inputs and comments. */
+    /** Number of inputs and comment lines. */
     get size() {
         return this.#entries.length;
     }
 
     /**
-     * Adds an input, and returns the lines that were added.
+     * Adds an input. Returns the lines that were added, none if nothing is recorded.
      * @param {string} input its line
      * @param {Uint8Array[]} packets what the key sent for it
      * @param {import("./wasm_key.js").Need} need

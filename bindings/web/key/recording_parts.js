@@ -1,16 +1,16 @@
-// Stores recordings in parts. A write appends only new lines, so its cost does not depend on the stored length. The
-// state under "hidlogKey" has the number of parts of each recording. The parts are stored under
+// Stores recordings in parts. A write adds a part with only the new lines, and does not rewrite stored lines. The state
+// under "hidlogKey" has the number of parts of each recording. The parts are stored under
 // "hidlogKey/INDEX/NUMBER", and the initial snapshot under "hidlogKey/INDEX/snapshot".
 
-const PREFIX = "hidlogKey/";
+const KEY_PREFIX = "hidlogKey/";
 
 /** @typedef {import("./recordings.js").StoredSession} StoredSession */
 /** @typedef {import("./recordings.js").StoredRecordings} StoredRecordings */
 /** @typedef {{ index: number, parts: number }} PartReference */
 /** @typedef {{ ended: PartReference[], last: PartReference }} References */
 
-const makePartKey = (/** @type {number} */ index, /** @type {number} */ number) => `${PREFIX}${index}/${number}`;
-const makeSnapshotKey = (/** @type {number} */ index) => `${PREFIX}${index}/snapshot`;
+const makePartKey = (/** @type {number} */ index, /** @type {number} */ number) => `${KEY_PREFIX}${index}/${number}`;
+const makeSnapshotKey = (/** @type {number} */ index) => `${KEY_PREFIX}${index}/snapshot`;
 
 export class RecordingParts {
     /**
@@ -56,7 +56,7 @@ export class RecordingParts {
         const { storage } = this;
         if (!this.#isClean && !this.#stored.size && typeof storage.key === "function") {
             const keys = Array.from({ length: storage.length ?? 0 }, (_, at) => storage.key?.(at) ?? "");
-            keys.filter((key) => key.startsWith(PREFIX)).forEach((key) => this.#removeItem(key));
+            keys.filter((key) => key.startsWith(KEY_PREFIX)).forEach((key) => this.#removeItem(key));
         }
         this.#isClean = true;
     }

@@ -68,7 +68,7 @@ export class Recordings {
         this.#snapshot = snapshot;
         this.session = new Session(snapshot, clock, records);
         if (kept && records) {
-            this.take(kept, snapshot);
+            this.continueStored(kept, snapshot);
         }
     }
 
@@ -109,13 +109,13 @@ export class Recordings {
      * Continues stored recordings. `snapshot` has the credentials at their end.
      * @param {StoredRecordings} kept @param {Uint8Array} snapshot
      */
-    take(kept, snapshot) {
+    continueStored(kept, snapshot) {
         const { last } = kept;
         const { recording } = this.session;
         const isAhead = recording.size > this.#kept;
         if (!isAhead && readIndex(last) === this.#index && last.log.startsWith(recording.lines())
             && equalBytes(decodeBase64url(last.snapshot), this.#snapshot)) {
-            this.#takeEnded(kept.ended);
+            this.#mergeEnded(kept.ended);
             this.#resume(last, snapshot);
             return;
         }
@@ -123,7 +123,7 @@ export class Recordings {
         if (isAhead) {
             this.#end();
         }
-        this.#takeEnded(kept.ended);
+        this.#mergeEnded(kept.ended);
         this.#index = Math.max(readIndex(last), ...this.#ended.map(({ index }) => index + 1));
         this.#start(decodeBase64url(last.snapshot));
         this.#resume(last, snapshot);
@@ -146,7 +146,7 @@ export class Recordings {
     }
 
     /** @param {StoredSession[]} ended */
-    #takeEnded(ended) {
+    #mergeEnded(ended) {
         const own = this.#ended.filter((recording) => !recording.isKept);
         this.#ended = [...ended.map((recording) => ({ ...fromStored(recording), isKept: true })), ...own];
         this.#ended.forEach((recording, at) => {

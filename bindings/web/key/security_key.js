@@ -3,7 +3,7 @@
 import { Activity, onTestFailed } from "./activity.js";
 import { AuthenticatorOptions, AUTHENTICATOR_OPTION_NAMES, pickAuthenticatorOptions } from "./abilities.js";
 import { readOrigin } from "./allowed_origins.js";
-import { makeCredential } from "./page_credentials.js";
+import { makeCredential } from "./idl_objects.js";
 import { Authenticator, CtapError } from "./authenticator.js";
 import { Ceremony } from "./ceremony.js";
 import { checkType, checkMembers, checkName, renameOptions, warnRenamed } from "./argument_checks.js";
@@ -54,7 +54,7 @@ export class SecurityKey extends EventTarget {
                     return this.#authenticatorOptions.get(name);
                 },
                 set(value) {
-                    this.#authenticatorOptions.take({ [name]: value });
+                    this.#authenticatorOptions.update({ [name]: value });
                 },
             });
         }
@@ -68,7 +68,7 @@ export class SecurityKey extends EventTarget {
         checkMembers("option", named, OPTION_NAMES);
         const { presence = "granted", delay = 0, account = 0, record = true, clock, state, storage, crypto } = named;
         checkType("record", record, typeof record === "boolean", "true or false");
-        checkType("clock", clock, ["undefined", "function"].includes(typeof clock), "a function of milliseconds");
+        checkType("clock", clock, ["undefined", "function"].includes(typeof clock), "a function that returns milliseconds");
         this.#user = new User({ presence, delay });
         this.account = account;
         this.#authenticatorOptions = new AuthenticatorOptions(pickAuthenticatorOptions(named));
@@ -111,8 +111,8 @@ export class SecurityKey extends EventTarget {
     // Recordings and state.
 
     /**
-     * The recording since a method last changed the credentials, as a log for `hidlog check`. Empty if recording is
-     * off.
+     * The current recording, as a log for `hidlog check`. A new one starts when a method changes the credentials. Empty
+     * if recording is off.
      */
     log() {
         return this.recordings().at(-1)?.log ?? "";
@@ -147,7 +147,7 @@ export class SecurityKey extends EventTarget {
 
     /**
      * Prints what the page did during a test, if the test fails.
-     * @param {any} context the context of a test of Vitest or node: the argument of the test, or of beforeEach
+     * @param {any} context what Vitest or node's test runner passes to the test, or to beforeEach's function
      */
     reportOnFailure(context) {
         const from = this.#activity.count;
@@ -239,7 +239,7 @@ export class SecurityKey extends EventTarget {
     }
 
     /**
-     * Runs a request of the page. Changes of the credentials are stored, and other tabs are locked while the
+     * Runs a request of the page. Changes of the credentials are stored, and other tabs are locked out while the
      * credentials change.
      * @template T @param {Ceremony} ceremony @param {AbortSignal} signal @param {(turn: Turn) => Promise<T>} run
      */
@@ -252,9 +252,9 @@ export class SecurityKey extends EventTarget {
             isVerified: false,
             ask: () => this.#user.answer(ceremony.question, signal),
             additions: new CoreAdditions(ceremony, this.#authenticatorOptions, this.#metadata, this.#privateKeys),
-            made: (id) => {
+            onCreated: (id) => {
                 this.#credentials.setLabel(id, ceremony.label);
-                turn.additions.made(id);
+                turn.additions.storeCreated(id);
             },
             enter: async () => {
                 release = await this.#state.lock();
@@ -332,7 +332,7 @@ export class SecurityKey extends EventTarget {
     async addCredential(credential) {
         const { isResidentCredential: isResident } = credential ?? {};
         checkType("isResidentCredential", isResident, !isResident || this.#authenticatorOptions.get("hasResidentKey"),
-            "false: the key does not support discoverable credentials (hasResidentKey is false)");
+            "false for a key without discoverable credentials (set hasResidentKey)");
         const row = await this.#credentials.create(credential, this.#authenticatorOptions);
         await this.#state.change((rows) => this.#credentials.with(rows, row));
         return this.#credentials.fromRow(row);
@@ -393,7 +393,7 @@ export class SecurityKey extends EventTarget {
      * @param {boolean} isUserVerified
      */
     async setUserVerified(isUserVerified) {
-        this.#authenticatorOptions.take({ isUserVerified });
+        this.#authenticatorOptions.update({ isUserVerified });
     }
 
     /**
@@ -401,7 +401,7 @@ export class SecurityKey extends EventTarget {
      * @param {any} options
      */
     setAuthenticatorOptions(options) {
-        this.#authenticatorOptions.take(options);
+        this.#authenticatorOptions.update(options);
     }
 
     /**

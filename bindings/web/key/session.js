@@ -2,8 +2,7 @@
 // and with what the core needs.
 import { toHex } from "./bytes.js";
 import { instantiateCore } from "./core_module.js";
-import { WasmKey } from "./wasm_key.js";
-import { playLine } from "./play_line.js";
+import { playLine, WasmKey } from "./wasm_key.js";
 import { fragmentMessage } from "./packets.js";
 import { Recording } from "./recording.js";
 

@@ -14,8 +14,8 @@ const MAX_PRIVATE_KEY_BYTES = 4096;
 /**
  * @typedef {import("./credentials.js").Credential & { rpIdHash: string, coreId?: string, coreKey?: string,
  *     extensions?: import("./key_extensions.js").KeptExtensions }} StoredCredential
- * `coreId` is the ID that the core has, if different; `coreKey` is its private key, if the credential's is of another
- * algorithm
+ * `coreId` is the ID that the core has, if different; `coreKey` is the core's private key, if the credential's is of
+ * another algorithm
  */
 /** @typedef {{ format: string, timeMs: number, credentials: StoredCredential[] }} State */
 
@@ -99,7 +99,7 @@ const checkDuplicates = (credentials) => {
         .map(({ rpIdHash, userHandle }) => `${rpIdHash} ${userHandle}`);
     const ids = [all.map(({ credentialId }) => credentialId), all.map(({ coreId }) => coreId), accounts];
     if (!ids.every(areUnique)) {
-        throw new TypeError("credentials must have different IDs, and discoverable ones different users");
+        throw new TypeError("credentials must have different IDs, and discoverable credentials different RP IDs or user handles");
     }
 };
 
@@ -123,7 +123,7 @@ export const checkState = (state) => {
     state.credentials.forEach(checkCredential);
     checkDuplicates(state.credentials);
     const { version = 0, recordings } = state;
-    checkType("version", version, isCount(version), "a number");
+    checkType("version", version, isCount(version), "a whole number from 0");
     checkType("recordings", typeof recordings, recordings === undefined || isStoredRecordings(recordings), "those stored by a key");
 };
 

@@ -112,7 +112,7 @@ export class Store {
 
     /**
      * Writes a state, if there is a storage, and the recordings if they fit. The name of a lock shows the version to
-     * other tabs. Returns whether the recordings were written.
+     * other tabs. Returns whether the recordings were written. Throws if the state does not fit.
      * @param {() => { state: import("./state.js").State, recordings?: StoredRecordings }} kept
      */
     async write(kept) {

@@ -4,7 +4,8 @@ import { sleepUnlessAborted, raceWithSignal } from "./platform.js";
 
 const PRESENCE_WORDS = ["granted", "denied", "timeout"];
 const PRESENCE_VALUES = [...PRESENCE_WORDS, "click", "none"];
-const EXPECTED_PRESENCE = `one of ${PRESENCE_VALUES.map((word) => `"${word}"`).join(", ")}, or a function that returns one of them`;
+const EXPECTED_WORD = `one of ${PRESENCE_VALUES.map((word) => `"${word}"`).join(", ")}`;
+const EXPECTED_PRESENCE = `${EXPECTED_WORD}, or a function that returns one of them`;
 
 /**
  * Asks the user with a dialog that has two buttons.
@@ -66,7 +67,7 @@ export class User {
     }
 
     set delay(delay) {
-        checkType("delay", delay, typeof delay === "number" && delay >= 0 && delay < 2 ** 31, "milliseconds");
+        checkType("delay", delay, typeof delay === "number" && delay >= 0 && delay < 2 ** 31, "a number of milliseconds below 2^31");
         this.#delay = delay;
     }
 
@@ -99,7 +100,7 @@ export class User {
         if (word === "click") {
             return askInDialog(question, signal);
         }
-        checkType("the result of presence", word, PRESENCE_WORDS.includes(word), EXPECTED_PRESENCE);
+        checkType("the result of presence", word, PRESENCE_WORDS.includes(word), EXPECTED_WORD);
         return word;
     }
 }

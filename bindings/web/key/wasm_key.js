@@ -1,10 +1,10 @@
 // The verified key in the memory of a WebAssembly instance (release/hidlog.h). A call that passes an input returns the
 // packets that the key sends. The cost of a call does not depend on the number of preceding calls. Used by the page's
 // key, and by the viewer to find causes.
-import { copyBytes, decodeUtf8 } from "./bytes.js";
+import { copyBytes, decodeUtf8, fromHex, toHex } from "./bytes.js";
 import { PACKET_SIZE } from "./standard.js";
-import { growMemory } from "./wasm_memory.js";
 
+const PAGE_BYTES = 65536;
 const SNAPSHOT_ERRORS = new Map([
     [-17, "not a snapshot"], [-18, "more than 64 credentials"], [-19, "an invalid credential"],
 ]);
@@ -13,6 +13,7 @@ const MAX_SENTENCE_BYTES = 160;
 // HIDLOG_SNAPSHOT_MAX_LEN.
 const MAX_SNAPSHOT_BYTES = 13 + 283 * 64;
 const NEED_KINDS = ["nothing", "presence", "key", "signature"];
+const MAX_SIGNATURE_BYTES = 72;
 export const PRESENCE_WORDS = ["granted", "denied", "timeout"];
 
 /** @typedef {{ kind: string, id: Uint8Array, toSign: Uint8Array }} Need what the key needs to continue */
@@ -44,6 +45,17 @@ const toEnumValue = (/** @type {string[]} */ words, /** @type {string} */ word) 
     return number;
 };
 
+/**
+ * Grows a memory to at least `size` bytes.
+ * @param {WebAssembly.Memory} memory @param {number} size
+ */
+export const growMemory = (memory, size) => {
+    const missing = Math.ceil((size - memory.buffer.byteLength) / PAGE_BYTES);
+    if (missing > 0) {
+        memory.grow(missing);
+    }
+};
+
 export class WasmKey {
     /**
      * @param {Record<string, any>} exports of an instance of the module, whose memory the key takes
@@ -66,7 +78,8 @@ export class WasmKey {
 
     /**
      * Calls hidlog_key_NAME, and returns its result. Throws on an error.
-     * @param {string} name @param {(number | { number: number })[]} args sizes and timestamps, and 32-bit numbers
+     * @param {string} name
+     * @param {(number | { number: number })[]} args 64-bit numbers, or 32-bit numbers as { number }
      * @returns {number}
      */
     call(name, ...args) {
@@ -74,7 +87,7 @@ export class WasmKey {
         const result = this.exports[`hidlog_key_${name}`](BigInt(this.at.key), ...values);
         if (result < 0) {
             const reason = SNAPSHOT_ERRORS.get(result);
-            throw new Error(reason ? `snapshot refused: ${reason}` : `hidlog_key_${name}: error ${result}`);
+            throw new Error(reason ? `snapshot refused: ${reason}` : `hidlog_key_${name} failed with error ${result}`);
         }
         return result;
     }
@@ -153,7 +166,8 @@ export class WasmKey {
 
     /**
      * Why the last input was rejected: the cause (enum hidlog_cause_code), the status, and a sentence; null if the
-     * input was not rejected. @param {number} which 1 for the input, 0 for a timeout before the input
+     * input was not rejected.
+     * @param {number} which 1 for the input, 0 for a timeout before the input
      */
     rejection(which = 1) {
         const { cause, text } = this.at;
@@ -225,3 +239,37 @@ export class WasmKey {
         return `= held ${held} rows ${rows} pending ${pending} requests ${requests} bytes ${bytes} steps ${steps}`;
     }
 }
+
+/**
+ * Decodes a hex field of `least` to `most` bytes.
+ * @param {string} text @param {number} least @param {number} most
+ */
+const readField = (text = "", least, most = least) => {
+    const bytes = fromHex(text);
+    if (toHex(bytes) !== text || bytes.length < least || bytes.length > most) {
+        throw new TypeError(`invalid hexadecimal field in a recorded line: ${text.slice(0, 80)}`);
+    }
+    return bytes;
+};
+
+/**
+ * Passes the input of a recorded line (docs/use/LOG_FORMAT.md) to the core, and returns the packets sent.
+ * @param {WasmKey} core @param {string} line
+ */
+export const playLine = (core, line) => {
+    const [kind, time, first, ...rest] = line.split(" ");
+    const timeMs = Number(time);
+    const play = {
+        ">": () => core.handlePacket(timeMs, readField(first, PACKET_SIZE)),
+        t: () => core.tick(timeMs),
+        p: () => core.providePresence(timeMs, PRESENCE_WORDS.find((word) => word === first) ?? ""),
+        k: () => (first === "no" ? core.refuseKeyPair(timeMs)
+            : core.provideKeyPair(timeMs, readField(first, 32), readField(rest[0], 32), readField(rest[1], 32))),
+        s: () => (first === "no"
+            ? core.refuseSignature(timeMs) : core.provideSignature(timeMs, readField(first, 1, MAX_SIGNATURE_BYTES))),
+    }[kind];
+    if (!play || !Number.isSafeInteger(timeMs) || String(timeMs) !== time) {
+        throw new TypeError(`invalid line in a recording: ${line.slice(0, 80)}`);
+    }
+    return play();
+};

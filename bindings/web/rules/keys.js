@@ -58,7 +58,7 @@
         const length = more ? data.subarray(at + 2, at + 2 + more).reduce((sum, byte) => sum * 256 + byte, 0) : short;
         const from = at + 2 + more;
         if (more > 3 || !(from + length <= data.length)) {
-            throw new RangeError("DER is cut");
+            throw new RangeError("the DER element is truncated, or longer than 16 MB");
         }
         return { tag: data[at], content: data.subarray(from, from + length), whole: data.subarray(at, from + length) };
     };
@@ -76,7 +76,7 @@
         const outer = readElement(signature, 0);
         const parts = readElements(outer.content);
         if (outer.tag !== 0x30 || outer.whole.length !== signature.length || parts.length !== 2) {
-            throw new RangeError("no signature");
+            throw new RangeError("not an ECDSA signature in DER");
         }
         const made = new Uint8Array(size * 2);
         parts.forEach(({ content }, at) => {
@@ -132,8 +132,8 @@
     const ALGORITHMS = [-7, -8, -257];
 
     /**
-     * Whether a signature is valid, or null if this browser doesn't support the algorithm. A signature whose algorithm
-     * this script doesn't support counts as valid.
+     * Whether a signature is valid, or null if this browser doesn't support the algorithm. A signature by a COSE key of
+     * an algorithm that this script doesn't support counts as valid.
      */
     const verifySignature = async ({ cose, certificate, alg, signed, signature }) => {
         try {
@@ -150,8 +150,8 @@
         }
     };
 
-    const known = new Map();
-    let asked = new Map();
+    const verdicts = new Map();
+    let queued = new Map();
     /** The number of signatures that this browser couldn't verify. */
     let unsure = 0;
 
@@ -160,10 +160,10 @@
      * verification.
      */
     const getVerdict = (name, question) => {
-        if (!known.has(name)) {
-            asked.set(name, question);
+        if (!verdicts.has(name)) {
+            queued.set(name, question);
         }
-        return known.get(name) ?? true;
+        return verdicts.get(name) ?? true;
     };
 
     $.modules.keys = () => ({
@@ -182,16 +182,16 @@
      */
     globalThis.hidlogVerified = async (rules) => {
         for (;;) {
-            asked = new Map();
+            queued = new Map();
             const found = rules();
-            if (!asked.size || !globalThis.crypto?.subtle) {
+            if (!queued.size || !globalThis.crypto?.subtle) {
                 return { found, unsure };
             }
             // Verifies all signatures concurrently, since the browser uses its own threads.
-            const answers = await Promise.all([...asked].map(async ([name, question]) => {
+            const answers = await Promise.all([...queued].map(async ([name, question]) => {
                 const answer = await verifySignature(question);
                 unsure += answer === null ? 1 : 0;
-                known.set(name, answer ?? true);
+                verdicts.set(name, answer ?? true);
                 return answer;
             }));
             if (!answers.includes(false)) {

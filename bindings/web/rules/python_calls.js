@@ -55,7 +55,7 @@
 
     const encoder = new TextEncoder();
     const decoder = new TextDecoder("utf-8", { fatal: true, ignoreBOM: true });
-    const fromLatin = (value) => value.letters;
+    const fromLatin1 = (value) => value.letters;
 
     const decodeUtf8 = (value) => {
         try {
@@ -97,7 +97,7 @@
         return order === "little" ? bytes([...made.data].reverse()) : made;
     };
 
-    const keepValue = (value) => value;
+    const identity = (value) => value;
     const sortItems = (items, key) => {
         const keyed = [...items].map((value) => [key ? apply(key, [value]) : value, value]);
         return keyed.sort(([a], [b]) => (lt(a, b) ? -1 : lt(b, a) ? 1 : 0)).map(([, value]) => value);
@@ -152,7 +152,7 @@
         str: {
             join: (self, parts) => [...iter(parts)].join(self),
             split: (self, mark) => self.split(mark),
-            partition: (self, mark) => partition(self, mark, keepValue),
+            partition: (self, mark) => partition(self, mark, identity),
             startswith: (self, front) => self.startsWith(front),
             endswith: (self, end) => self.endsWith(end),
             lower: (self) => self.toLowerCase(),
@@ -164,9 +164,9 @@
             decode: decodeUtf8,
             startswith: (self, front) => eq(getSlice(self, 0, front.data.length), front),
             ljust: (self, width, filler) => pad(self, width, filler),
-            split: (self, mark) => fromLatin(self).split(fromLatin(mark)).map(toLatin1),
-            partition: (self, mark) => partition(fromLatin(self), fromLatin(mark), toLatin1),
-            join: (self, parts) => toLatin1([...iter(parts)].map(fromLatin).join(fromLatin(self))),
+            split: (self, mark) => fromLatin1(self).split(fromLatin1(mark)).map(toLatin1),
+            partition: (self, mark) => partition(fromLatin1(self), fromLatin1(mark), toLatin1),
+            join: (self, parts) => toLatin1([...iter(parts)].map(fromLatin1).join(fromLatin1(self))),
         },
         int: { to_bytes: toBytes },
         tuple: { index: (self, value) => METHODS.list.index(self, value) },
@@ -210,7 +210,7 @@
         return typeof found === "function" && !Object.hasOwn(self, name) ? found.bind(self) : found;
     };
 
-    const attribute = (object, name) => {
+    const getAttribute = (object, name) => {
         if (object instanceof PyObject || object instanceof Type || object?.$isModule) {
             return getMember(object, name);
         }
@@ -256,9 +256,9 @@
 
     // ---- built-in functions
 
-    const made = {
+    const types = {
         bool: new Type("bool", (value = false) => isTruthy(value)),
-        int: new Type("int", (value) => toSmallNumber(BigInt(value instanceof Bytes ? fromLatin(value) : value)), isInteger),
+        int: new Type("int", (value) => toSmallNumber(BigInt(value instanceof Bytes ? fromLatin1(value) : value)), isInteger),
         str: new Type("str", (value = "") => str(value)),
         bytes: new Type("bytes", (value = 0) => (isInteger(value) ? new Bytes(new Uint8Array(Number(value))) : bytes(iter(value)))),
         list: new Type("list", (value = []) => [...iter(value)]),
@@ -266,8 +266,8 @@
         dict: new Type("dict", (value = []) => makeDict(value instanceof Dict ? pairs(value) : [...iter(value)])),
         set: new Type("set", (value = []) => makeSet(iter(value))),
     };
-    Object.assign(made.int, { statics: { from_bytes: fromBytes } });
-    Object.assign(made.bytes, { statics: { fromhex: parseHexText } });
+    Object.assign(types.int, { statics: { from_bytes: fromBytes } });
+    Object.assign(types.bytes, { statics: { fromhex: parseHexText } });
 
     const makeExtremum = (name, isBetter) => (...words) => {
         const items = words.length === 1 ? [...iter(words[0])] : words;
@@ -309,7 +309,7 @@
         return Array.from({ length: shortest }, (_, at) => Tuple.from(all.map((list) => list[at])));
     };
 
-    const anyItem = (items) => {
+    const isAnyTrue = (items) => {
         for (const value of iter(items)) {
             if (isTruthy(value)) {
                 return true;
@@ -318,7 +318,7 @@
         return false;
     };
 
-    const allItems = (items) => {
+    const areAllTrue = (items) => {
         for (const value of iter(items)) {
             if (!isTruthy(value)) {
                 return false;
@@ -328,11 +328,11 @@
     };
 
     const builtins = {
-        ...made, len, isinstance, repr, range: makeRange, zip: zipIterables, KeyError, ValueError, IndexError, AttributeError, UnicodeDecodeError,
+        ...types, len, isinstance, repr, range: makeRange, zip: zipIterables, KeyError, ValueError, IndexError, AttributeError, UnicodeDecodeError,
         TypeError: $.TypeError,
         Exception: PyException,
-        any: anyItem,
-        all: allItems,
+        any: isAnyTrue,
+        all: areAllTrue,
         max: makeExtremum("max", (a, b) => lt(b, a)),
         min: makeExtremum("min", (a, b) => lt(a, b)),
         sum: (items) => [...iter(items)].reduce((sum, value) => $.add(sum, value), 0),
@@ -351,7 +351,7 @@
     const compilePattern = (pattern) => ({
         $isModule: true,
         fullmatch: (data) => {
-            const found = new RegExp(`^(?:${fromLatin(pattern)})$`, "s").exec(fromLatin(data));
+            const found = new RegExp(`^(?:${fromLatin1(pattern)})$`, "s").exec(fromLatin1(data));
             return found ? new Match(found) : null;
         },
     });
@@ -368,14 +368,14 @@
         json: () => ({}),
         "xml.sax.saxutils": () => ({}),
     };
-    const run = new Map();
+    const loadedModules = new Map();
 
     /** The exports of a module, which is executed when it is first imported. */
     const module = (name) => {
-        if (!run.has(name)) {
-            run.set(name, { ...modules[name](), $isModule: true });
+        if (!loadedModules.has(name)) {
+            loadedModules.set(name, { ...modules[name](), $isModule: true });
         }
-        return run.get(name);
+        return loadedModules.get(name);
     };
 
     /** Returns a function that caches the results for the last `size` arguments, as functools.lru_cache does. */
@@ -399,5 +399,5 @@
         }
     };
 
-    Object.assign($, { apply, attribute, builtins, call, format, assertTrue, isinstance, makeCached, module, modules, getMember, repr });
+    Object.assign($, { apply, getAttribute, builtins, call, format, assertTrue, isinstance, makeCached, module, modules, getMember, repr });
 })();

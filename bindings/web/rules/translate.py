@@ -133,7 +133,7 @@ class Expressions:
     def write_Attribute(self, node: ast.Attribute) -> str:
         if isinstance(node.value, ast.Name) and node.value.id == "self":
             return f"$.getMember(self, {json.dumps(node.attr)})"
-        return f"$.attribute({self.write_expression(node.value)}, {json.dumps(node.attr)})"
+        return f"$.getAttribute({self.write_expression(node.value)}, {json.dumps(node.attr)})"
 
     def write_Subscript(self, node: ast.Subscript) -> str:
         if isinstance(node.slice, ast.Slice):
