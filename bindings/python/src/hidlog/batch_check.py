@@ -29,7 +29,7 @@ from typing import Any, NamedTuple, Optional, Union
 from .errors import ArgumentTypeError, LogError, SnapshotError, check_int
 from .files import read_input
 from .logs import check
-from .recording_files import snapshot_path
+from .saved_files import snapshot_path
 
 # The outcome if a worker does not have the file, so that the data must be sent.
 _FILE_MISSING = "elsewhere"

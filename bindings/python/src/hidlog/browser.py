@@ -14,11 +14,11 @@ import time
 from collections.abc import Callable, Mapping
 from typing import TYPE_CHECKING, Any, NamedTuple, Optional, Protocol, Union
 
-from . import cbor, signals, suggestions
+from . import cbor, signals
 from .client import Client
 from .credentials import Credential
 from .core_additions import CoreAdditions, adapt_options
-from .errors import CtapError, InvalidChannelError, KeyTimeoutError, describe
+from .errors import CtapError, InvalidChannelError, KeyTimeoutError, describe, get_renamed
 from .key_extensions import drop_list_inputs, is_usable, read_inputs
 from .packets import CBOR, GET_NEXT_ASSERTION
 from .private_keys import public_point
@@ -156,7 +156,7 @@ class Browser:
     if not TYPE_CHECKING:
 
         def __getattr__(self, name: str) -> Any:
-            return suggestions.get_renamed(self, name, {"choose": "select_account"})
+            return get_renamed(self, name, {"choose": "select_account"})
 
     # Requests to the key.
 
@@ -411,7 +411,7 @@ def _check_signal(signal: Signal | None) -> None:
         text = f"signal must be a threading.Event or another object with is_set(), not {describe(signal)}"
         raise WebAuthnTypeError(text)
     if signal.is_set():
-        raise AbortError("the signal was set before the request")
+        raise AbortError("the signal was already set before the request")
 
 
 def _check_account(account: object) -> None:

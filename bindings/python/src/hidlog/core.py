@@ -26,7 +26,7 @@ _ERROR_TEXTS = {
     -4: "no packet is queued",
     -5: "invalid argument",
     -6: "the buffer is too small",
-    -7: "the key is busy",
+    -7: "a request is in progress: provide what it needs first",
     -8: "another discoverable credential has the same relying party and user",
     -17: "snapshot refused: 1 (it is not a snapshot)",
     -18: "snapshot refused: 2 (it has more than {capacity} credentials)",

@@ -9,8 +9,17 @@ from functools import wraps
 from hashlib import sha256
 from typing import TYPE_CHECKING, Any, Protocol, TypeVar, cast, overload
 
-from . import algorithms, cbor, private_keys, suggestions
-from .errors import ArgumentError, SnapshotError, check_bytes, check_choice, check_int, encode_utf8
+from . import algorithms, cbor, private_keys
+from .errors import (
+    ArgumentError,
+    SnapshotError,
+    check_bytes,
+    check_choice,
+    check_int,
+    encode_utf8,
+    get_renamed,
+    make_unknown_name_error,
+)
 from .credential_metadata import CORE_ID, MAX_ID, Backup, CredentialMetadata
 
 if TYPE_CHECKING:
@@ -73,7 +82,7 @@ class Credential:
     if not TYPE_CHECKING:
 
         def __getattr__(self, name: str) -> Any:
-            return suggestions.get_renamed(self, name, _OLD_NAMES)
+            return get_renamed(self, name, _OLD_NAMES)
 
     @property
     def backup(self) -> Backup:
@@ -223,7 +232,7 @@ class Credentials(Sequence[Credential]):
     if not TYPE_CHECKING:
 
         def __getattr__(self, name: str) -> Any:
-            return suggestions.get_renamed(self, name, _OLD_METHODS)
+            return get_renamed(self, name, _OLD_METHODS)
 
     def _snapshot_list(self) -> list[Credential]:
         metadata = self._key._metadata
@@ -375,8 +384,8 @@ class Credentials(Sequence[Credential]):
             return private, None
         algorithm = algorithms.get_algorithm(private)
         if algorithm not in self._key.algorithms:
-            text = f"the private key is of {algorithms.format_algorithm(algorithm)}; it must be on P-256"
-            raise ArgumentError(f"{text}, or of the key's algorithms")
+            text = f"the private key has the algorithm {algorithms.format_algorithm(algorithm)}; it must be ES256"
+            raise ArgumentError(f"{text}, or one of the key's algorithms")
         return private_keys.make_private_key(self._key._random_bytes), private
 
     def _read_extensions(self, large_blob: bytes | None, discoverable: bool) -> dict[str, Any]:
@@ -433,7 +442,7 @@ class Credentials(Sequence[Credential]):
         """Changes members of a credential: sign_count, user_name, user_id, discoverable or its backup flags."""
         for name in members:
             if name not in _CHANGEABLE_MEMBERS:
-                raise suggestions.make_unknown_name_error("member to change", name, _CHANGEABLE_MEMBERS)
+                raise make_unknown_name_error("member to change", name, _CHANGEABLE_MEMBERS)
         held = self.get(credential_id)
         changed = replace(held, **members)
         if (changed.user_id, changed.discoverable) == (held.user_id, held.discoverable):

@@ -148,7 +148,7 @@ def describe_error(error: BaseException) -> str:
     if isinstance(error, OSError) and error.strerror:
         return f"{error.filename}: {error.strerror}" if error.filename is not None else error.strerror
     if isinstance(error, MemoryError):
-        return "no memory"
+        return "out of memory"
     if isinstance(error, RecursionError):
         return "the input is nested too deeply"
     return " ".join(str(error).split()) or type(error).__name__
@@ -211,7 +211,7 @@ def run_as_program(command: Callable[[], int]) -> int:
         print_error(f"hidlog: {error}")
         return 1
     except MemoryError:
-        print_error("hidlog: no memory")
+        print_error("hidlog: out of memory")
         return STATUS_FAILED
     except (HidlogError, OSError, ImportError) as error:
         print_error(f"hidlog: {describe_error(error)}")

@@ -13,8 +13,7 @@ from __future__ import annotations
 from hashlib import sha256
 from typing import Any
 
-from .errors import ArgumentTypeError, check_int, describe, encode_utf8, status_code
-from .suggestions import make_unknown_name_error
+from .errors import ArgumentTypeError, check_int, describe, encode_utf8, status_code, make_unknown_name_error
 
 _FAULTS_OFF: dict[str, Any] = {
     "status": None,
@@ -95,8 +94,8 @@ class Faults:
         done = []
         if self.truncate_by:
             data = data[: max(1, len(data) - self.truncate_by)]
-            done.append(f"the answer is cut to {len(data)} bytes")
+            done.append(f"the response is truncated to {len(data)} bytes")
         if self.status is not None:
             data = bytes([status_code(self.status)])
-            done.append(f"the answer is status 0x{data[0]:02X}")
+            done.append(f"the response has status 0x{data[0]:02X}")
         return data, done

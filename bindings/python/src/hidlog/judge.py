@@ -20,7 +20,7 @@ from .captures import conformance
 from .captures.pcap import is_capture
 from .captures.reader import Capture, read_capture
 from .captures.source import CaptureError
-from .captures.utf16 import BYTE_ORDER_MARKS, Utf16Text
+from .captures.decoders import BYTE_ORDER_MARKS, Utf16Text
 from .captures.log_writer import iter_log
 from .entry_point import STATUS_FAILED
 from .errors import HidlogError, LogError, check_bytes

@@ -19,10 +19,9 @@ from .files import write_atomically, write_private
 from .in_process_key import InProcessKey
 from .log_lines import Engine
 from .credential_metadata import Backup
-from .recording_files import snapshot_path
 from .served import serve
 from .session import Recording, Session
-from .snapshot_files import add_checksum, verify_checksum
+from .saved_files import add_checksum, snapshot_path, verify_checksum
 
 if TYPE_CHECKING:
     from .browser import Browser
@@ -148,7 +147,9 @@ class SecurityKey(Session):
     def _check_idle(self) -> None:
         """Raises KeyBusyError if a request is in progress."""
         if self._work.need.kind != "nothing" or self._from_host.is_open:
-            raise KeyBusyError("cannot change credentials while a request is in progress")
+            raise KeyBusyError(
+                "a request is in progress: wait for its response, or cancel it, before changing credentials"
+            )
 
     def _load_snapshot(self, snapshot: bytes) -> None:
         """Replaces the credentials by those of a snapshot. The clock and the clients' channels are kept."""

@@ -33,7 +33,7 @@ _TOO_LONG, _READ = 2, 4
 _REFUSED = 2
 # A line of a snapshot's checksum file, and the error if it does not match.
 _CHECKSUM_FILE = re.compile(rb"[0-9a-fA-F]{64} [0-9a-fA-F]{16}\n")
-_DAMAGED_MESSAGE = "its bytes don't match its .hidlog-sum: it is damaged; else remove that file"
+_DAMAGED_MESSAGE = "its bytes don't match its .hidlog-sum: restore it, or remove the .hidlog-sum"
 
 
 def is_supported(words: list[str]) -> bool:

@@ -96,7 +96,7 @@ class _RequestInProgress:
             return [session.new_key()]
         if kind == "signature":
             return [session.signature()]
-        raise HidlogError(f"the key does not respond to request {self._request.data[:1].hex()}")
+        raise HidlogError(f"the key did not respond to the request {self._request.data[:1].hex()}")
 
     def _list_presence_inputs(self) -> list[tuple[Field, ...]]:
         """Returns the ticks until the user replies, and the reply."""

@@ -11,10 +11,10 @@ from contextlib import AbstractContextManager, contextmanager, nullcontext
 from typing import TYPE_CHECKING, Any, NamedTuple, Union
 from uuid import UUID
 
-from . import core, packets, private_keys, suggestions
+from . import core, packets, private_keys
 from .activity import Activity
 from .authenticator_settings import ES256, AuthenticatorSettings
-from .errors import ArgumentError, KeyClosedError, KeyForkedError, KeyTimeoutError
+from .errors import ArgumentError, KeyClosedError, KeyForkedError, KeyTimeoutError, check_attribute, get_renamed
 from .errors import check_bytes, check_callable, check_choice, check_int, check_path, check_seconds, describe
 from .faults import Faults
 from .in_process_key import InProcessKey
@@ -25,9 +25,8 @@ from .core_additions import CoreAdditions
 from .presence import Presence, User
 from .private_keys import load_private_keys
 from .subprocess_key import SubprocessKey
-from .session_state import Exchange, Time, Work
+from .session_state import Exchange, PacketQueue, Time, Work
 from .standard import KEEPALIVE_MS
-from .packet_queue import PacketQueue
 
 # Slightly more than KEEPALIVE_MS, because timestamps are whole milliseconds.
 _KEEPALIVE_SECONDS = 0.101
@@ -124,13 +123,13 @@ class Session(AuthenticatorSettings):
 
     def __setattr__(self, name: str, value: Any) -> None:
         if name[:1] != "_":
-            suggestions.check_attribute(self, name, ("activity", "faults", "private_keys"))
+            check_attribute(self, name, ("activity", "faults", "private_keys"))
         object.__setattr__(self, name, value)
 
     if not TYPE_CHECKING:
 
         def __getattr__(self, name: str) -> Any:
-            return suggestions.get_renamed(self, name, _OLD_NAMES)
+            return get_renamed(self, name, _OLD_NAMES)
 
     # Threads and processes.
 

@@ -278,8 +278,8 @@ def start(command: Command, blocks: list[Block]) -> Shrinking:
     """Runs the command on the whole log. Raises ValueError if its failure can't be used."""
     wanted = command.find_failure(blocks)
     if wanted is None:
-        text = "" if command.match is None else f" and print {command.match!r}"
-        raise ValueError(f"the command does not fail{text} on the whole log")
+        expected = "fail" if command.match is None else f"both fail and print {command.match!r}"
+        raise ValueError(f"the command does not {expected} on the whole log")
     if command.find_failure([]) == wanted:
         text = f", with {command.message!r}" if command.message else ""
         raise ValueError(f"the command also fails on an empty log{text}: it must read standard input")

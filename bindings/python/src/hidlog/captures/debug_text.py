@@ -100,7 +100,7 @@ class _HexDumpReader:
             return
         channel = hid.BROADCAST if self._command == hid.INIT else self._channels.get(self._device, 0)
         if not channel:
-            self.source.note("the channel is unknown before an INIT; 00000001 is used")
+            self.source.note("channel 00000001 is assumed for messages before an INIT")
             channel = 1
         message = hid.Message(channel, self._command, data)
         kept.extend(Packet(None, True, packet) for packet in hid.fragment_message(message))
@@ -130,14 +130,14 @@ def read_python_fido2(lines: Iterable[bytes], source: Source) -> list[Stream]:
         if not found:
             continue
         if len(found[2]) % 2 or not 5 <= len(found[2]) // 2 <= hid.PACKET + 1:
-            source.note("a line of python-fido2's is truncated, or is of no packet: skipped")
+            source.note("skipped a line of python-fido2 that is truncated or has no packet")
             continue
         data = bytes.fromhex(found[2].decode())
         sent = found[1] == b"SEND"
         if len(data) == hid.PACKET + 1:
             data = data[1:]
         if not sent and len(data) < hid.PACKET:
-            source.note("a line of python-fido2's is truncated, or is of no packet: skipped")
+            source.note("skipped a line of python-fido2 that is truncated or has no packet")
             continue
         packets = streams.setdefault(name, PacketStore())
         packets.append(Packet(clock.read(line), sent, data.ljust(hid.PACKET, b"\0")))

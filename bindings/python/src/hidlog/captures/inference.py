@@ -111,7 +111,7 @@ class _Replies:
             asked = [_packet_index(entry) for entry in transaction.keepalives if entry.packet[7] == _UP_NEEDED]
             after = [index for index in changed if asked and index > asked[-1]]
             index = after[0] if after and presence[1] == b"granted" else end
-            reason = "the KEEPALIVE's status behind it is another" if index != end else presence[2]
+            reason = "the next KEEPALIVE has another status" if index != end else presence[2]
             self._lines.setdefault(index, []).insert(0, (presence[0], presence[1], f"the user's reply: {reason}"))
         if response[0] == 0 and request in _SIGNING_COMMANDS:
             replies += _reply_from_response(request, response)
@@ -128,18 +128,18 @@ def _presence_from_response(transaction: Any, request: int, response: bytes) -> 
         return None
     was_asked = any(entry.packet[7] == _UP_NEEDED for entry in transaction.keepalives)
     if response[0] == _DENIED:
-        return b"p", b"denied", "the answer is OPERATION_DENIED"
+        return b"p", b"denied", "the response has status OPERATION_DENIED"
     if response[0] in (_USER_TIMEOUT, _ACTION_TIMEOUT):
-        return b"p", b"timeout", "the answer says that the user's time ran out"
+        return b"p", b"timeout", "the response has the status of a user time-out"
     if response[0] == _EXCLUDED and was_asked:
-        return b"p", b"granted", "the answer is CREDENTIAL_EXCLUDED after the user was asked"
+        return b"p", b"granted", "the response has status CREDENTIAL_EXCLUDED after the user was asked"
     if response[0]:
         return None
     if request in (hid.RESET, hid.SELECTION):
-        return b"p", b"granted", "the answer is CTAP2_OK"
+        return b"p", b"granted", "the response has status CTAP2_OK"
     auth = _get_member(response, 2)
     if isinstance(auth, bytes) and len(auth) >= 37 and auth[32] & _UP:
-        return b"p", b"granted", "the answer has flag UP"
+        return b"p", b"granted", "the response has flag UP"
     return None
 
 
@@ -163,12 +163,12 @@ def _reply_from_response(request: int, response: bytes) -> list[Derived]:
     if request == hid.MAKE_CREDENTIAL:
         key = _read_key_fields(item.get(2))
         if key:
-            found.append((b"k", key, "the new key, from the answer"))
+            found.append((b"k", key, "the new key, from the response"))
         statement = item.get(3) if isinstance(item.get(3), dict) else {}
         # With a certificate, the signature is not the new key's.
         signature = statement.get("sig") if isinstance(statement, dict) and "x5c" not in statement else None
     if isinstance(signature, bytes) and 1 <= len(signature) <= 72:
-        found.append((b"s", signature.hex().encode(), "the signature, from the answer"))
+        found.append((b"s", signature.hex().encode(), "the signature, from the response"))
     return found
 
 

@@ -66,7 +66,7 @@ def _read_pcap(source: Source) -> Iterator[Frame]:
     order, unit = _PCAP[source.peek(4)]
     head = source.read(24)
     if len(head) < 24:
-        raise CaptureError(f"the file ends in pcap's header, after {len(head)} bytes")
+        raise CaptureError(f"the capture ends within pcap's file header, after {len(head)} bytes")
     link = struct.unpack_from(order + "I", head, 20)[0] & 0xFFFF
     while head := source.read(16):
         if len(head) < 16:
@@ -185,7 +185,9 @@ class _PcapngReader:
     def _make_frame(self, number: int, ticks: int | None, kept: int, length: int, rest: bytes, offset: int) -> Frame:
         interface = self._get_interface(number, offset)
         if kept > len(rest):
-            raise CaptureError(f"the capture is invalid at byte {offset}: a packet of {kept} bytes in a shorter block")
+            raise CaptureError(
+                f"the capture is invalid at byte {offset}: a packet of {kept} bytes, longer than its block"
+            )
         options = list(self._read_options(rest[kept + -kept % 4 :])) if ticks is not None else []
         for code, value in options:
             if code == _DROPPED and len(value) == 8:

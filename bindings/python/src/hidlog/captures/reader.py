@@ -9,7 +9,7 @@ from pathlib import Path
 from typing import NamedTuple
 
 from ..files import open_input
-from . import chromium, debug_text, gzip_reader, strace, usbmon_text, utf16
+from . import chromium, debug_text, decoders, strace, usbmon_text
 from .pcap import is_capture
 from .source import CaptureError, Readable, Source
 from .packet_store import Stream
@@ -44,11 +44,11 @@ def read_file(file: Readable) -> Capture:
     """Reads a capture from a file."""
     source = Source(file)
     front = source.peek(4096)
-    if front.startswith(gzip_reader.MAGIC):
-        source = Source(gzip_reader.unpack(file, front))
+    if front.startswith(decoders.GZIP_MAGIC):
+        source = Source(decoders.unpack(file, front))
         front = source.peek(4096)
-    if front.startswith(utf16.BYTE_ORDER_MARKS):
-        source = Source(utf16.Utf16Text(source))
+    if front.startswith(decoders.BYTE_ORDER_MARKS):
+        source = Source(decoders.Utf16Text(source))
         front = source.peek(4096)
     if not front:
         raise CaptureError("the capture is empty")

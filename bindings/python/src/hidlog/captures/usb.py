@@ -65,7 +65,7 @@ def read_transfers(source: Source) -> Iterator[Transfer]:
             continue
         found = True
         if len(frame.data) < _HEADER_BYTES[frame.link]:
-            source.note(f"frames were truncated to less than a transfer's header ({_HEADER_BYTES[frame.link]} bytes)")
+            source.note(f"skipped frames that are shorter than a transfer's header ({_HEADER_BYTES[frame.link]} bytes)")
             continue
         transfer = _parse_usbpcap(frame) if frame.link == USBPCAP else _parse_usbmon(frame)
         if transfer is not None:

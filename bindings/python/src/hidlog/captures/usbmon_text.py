@@ -28,7 +28,7 @@ def read_lines(lines: Iterator[bytes], source: Source) -> Iterator[Transfer]:
         found = _LINE.match(line)
         if not found:
             if line.strip() and not line.startswith(b"#"):
-                source.note("skipped a line that is truncated or not usbmon's")
+                source.note("skipped a line that is truncated or is not in usbmon's format")
             continue
         at = int(found[2])
         if before - at > _TIME_WRAP // 2:

@@ -148,7 +148,9 @@ class DevTools:
         if future is None:
             return
         if "error" in message:
-            future.set_exception(DriverError("unknown error", f"the browser: {message['error'].get('message')}"))
+            future.set_exception(
+                DriverError("unknown error", f"the browser returned the error: {message['error'].get('message')}")
+            )
         else:
             future.set_result(message.get("result", {}))
 

@@ -133,7 +133,10 @@ class Driver:
             raise DriverError("unknown error", "the driver's response is not JSON") from None
         if response.status != 200:
             found = value if isinstance(value, dict) else {}
-            raise DriverError(str(found.get("error", "unknown error")), str(found.get("message", "the driver failed")))
+            raise DriverError(
+                str(found.get("error", "unknown error")),
+                str(found.get("message", f"the driver returned status {response.status} without a message")),
+            )
         return value
 
     def close(self) -> None:

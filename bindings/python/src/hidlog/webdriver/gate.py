@@ -79,7 +79,7 @@ def _check_path(path: str) -> None:
         )
     first, *segments = path.split("/")
     if first or not segments or not all(_PATH_SEGMENT.match(item) and item not in ("", ".", "..") for item in segments):
-        raise DriverError("unknown command", f"{_quote(path)} is an invalid path of a WebDriver command", 400)
+        raise DriverError("unknown command", f"{_quote(path)} is not the path of a WebDriver command", 400)
 
 
 def parse_host(text: str) -> tuple[str, int | None] | None:

@@ -6,8 +6,9 @@ const hidlogPage = (() => {
     // A window that a page opens is empty at first, has the page's origin, and may navigate to another document.
     const { origin } = globalThis;
     const isPage = /^https?:/.test(origin);
-    const FORMAT = "hidlog web key 1";
+    const STATE_FORMAT = "hidlog web key 1";
     const [SEALED, PROOF] = ["hidlogSealed", "hidlogProof"];
+    // The private key in the JWK of a placeholder: 32 zero bytes.
     const NO_KEY = "A".repeat(43);
     const POINT_BYTES = 64;
 
@@ -142,7 +143,7 @@ const hidlogPage = (() => {
     const restore = async (credentials) => {
         const state = key.state();
         if (toComparable(credentials) !== toComparable(state.credentials)) {
-            await key.restore({ format: FORMAT, timeMs: state.timeMs, credentials });
+            await key.restore({ format: STATE_FORMAT, timeMs: state.timeMs, credentials });
         }
         known = listIds(credentials);
     };
@@ -218,7 +219,10 @@ const hidlogPage = (() => {
 
     // With a channel.
 
-    /** Installs the key in this document. @param {(text: string) => void} send */
+    /**
+     * Installs the key in this document, if it is an http or https page without the key.
+     * @param {(text: string) => void} send
+     */
     const connect = (send, authenticatorOptions) => {
         if (!isPage || key) {
             return;

@@ -29,7 +29,8 @@ _AUTHENTICATOR = re.compile(
 )
 # Commands outside sessions that are passed to the driver. All others, such as chromedriver's /shutdown, are rejected.
 _SESSIONLESS_COMMANDS = (("GET", "/status"), ("GET", "/sessions"), ("POST", "/session"))
-# Before these commands, the proxy synchronizes with the page, since they may load another document.
+# Before these commands, the proxy synchronizes with the page, since they may leave it: for another document, window or
+# frame.
 _MAY_LEAVE_PAGE = re.compile(
     r"/(url|back|forward|refresh|execute/a?sync|actions|window|frame|frame/parent|element/[^/]+/(click|value))\Z"
 )

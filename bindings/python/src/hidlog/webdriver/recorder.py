@@ -12,7 +12,7 @@ from hashlib import sha256
 from pathlib import Path
 from typing import Any
 
-from ..recording_files import write_recording
+from ..saved_files import write_recording
 from .errors import DriverError, make_invalid_argument, print_error
 
 Json = dict[str, Any]

@@ -1,16 +1,21 @@
-"""Reads a gzip file in bounded memory. Wireshark can write captures in gzip."""
+"""Readers that unpack gzip files in bounded memory, and convert UTF-16 to UTF-8.
+
+Wireshark can write captures in gzip; PowerShell's `>` and Tee-Object write UTF-16.
+"""
 
 from __future__ import annotations
 
+import codecs
 import io
 import zlib
 
 from .source import CaptureError, Readable
 
-MAGIC = b"\x1f\x8b\x08"
+GZIP_MAGIC = b"\x1f\x8b\x08"
 _READ_BYTES = 1 << 16
 # Maximum unpacked size: a gzip file of 1 MB may unpack to 1 GB.
 MAX_UNPACKED = 64 << 20
+BYTE_ORDER_MARKS = (codecs.BOM_UTF16_LE, codecs.BOM_UTF16_BE)
 
 
 class Unpacked:
@@ -62,3 +67,27 @@ def unpack(file: Readable, front: bytes) -> Unpacked:
         size = f"{MAX_UNPACKED >> 20} MiB"
         raise CaptureError(f"the gzip file is larger than {size}, packed or unpacked; unpack it first, with gunzip")
     return Unpacked(io.BytesIO(packed), b"")
+
+
+class Utf16Text:
+    """Reads a text that starts with a UTF-16 byte order mark, which is skipped."""
+
+    def __init__(self, file: Readable):
+        self._file = file
+        self._decoder = codecs.getincrementaldecoder("utf-16")()
+        self._ready = b""
+        self._is_ended = False
+
+    def read(self, count: int) -> bytes:
+        """Returns `count` bytes of UTF-8, or fewer at the end."""
+        while len(self._ready) < count and not self._is_ended:
+            piece = self._file.read(_READ_BYTES)
+            self._is_ended = not piece
+            try:
+                self._ready += self._decoder.decode(piece, self._is_ended).encode()
+            except UnicodeError:
+                raise CaptureError(
+                    "the file starts like UTF-16 but is not valid UTF-16; in PowerShell, write the file with | Out-File -Encoding ascii"
+                ) from None
+        data, self._ready = self._ready[:count], self._ready[count:]
+        return data
