@@ -1,14 +1,14 @@
 #!/usr/bin/env bash
-# Builds the portable C library's packages: bindings/c/build.sh DIR [FOLDER]
+# Builds the portable C library's packages: bindings/c/build.sh PACKAGES_DIR [SOURCES_DIR]
 #
 #     hidlog-portable-VERSION.tar.gz        its sources, for every system
 #     hidlog-VERSION-windows-x86_64.zip     hidlog.exe and hidlog.dll
 #
 # Builds are reproducible. Needs wabt (exits with 3 if it is missing), and gcc-mingw-w64-x86-64 for Windows; without the
-# latter, the zip is skipped. If FOLDER is set, the sources and hidlog.dll are also copied there, for the Python, Go and
+# latter, the zip is skipped. With SOURCES_DIR, the sources and hidlog.dll are also copied there, for the Python, Go and
 # Rust packages.
 set -euo pipefail
-[ $# = 1 ] || [ $# = 2 ] || { echo "usage: bindings/c/build.sh DIR [FOLDER]" >&2; exit 2; }
+[ $# = 1 ] || [ $# = 2 ] || { echo "usage: bindings/c/build.sh PACKAGES_DIR [SOURCES_DIR]" >&2; exit 2; }
 top=$(cd "$(dirname "${BASH_SOURCE[0]}")/../.." && pwd)
 mkdir -p "$1"
 to=$(cd "$1" && pwd)

@@ -1,8 +1,8 @@
 // Implements hidlog.h with the WebAssembly module translated to C, for any little-endian machine with a C11 compiler.
 // Each call takes an instance of the module from a pool and maps the caller's buffers into its address space. So all of
-// a key's state is in its caller's memory, and calls from several threads need no lock. The first instance is static;
+// a key's state is in its caller's memory, and calls on different keys need no lock. The first instance is static;
 // further instances are allocated only if calls run at the same time. If that fails, the call returns the error for a
-// buffer that is too small.
+// buffer that is too small (hidlog_result_message returns 0).
 #include "hidlog.h"
 #include "hidlog_module.h"
 

@@ -13,7 +13,7 @@
 #if defined(__BYTE_ORDER__) && __BYTE_ORDER__ == __ORDER_LITTLE_ENDIAN__
 #elif defined(_MSC_VER) /* Windows is little-endian on all its processors */
 #else
-#error "hidlog needs a little-endian processor: WebAssembly's memory and hidlog.h's structs are shared"
+#error "hidlog needs a little-endian processor: the WebAssembly module reads the structs of hidlog.h in place"
 #endif
 
 // Loads are always inlined: the compiler's own choices lead to a fifth more instructions.

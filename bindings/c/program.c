@@ -35,8 +35,8 @@ static const char help_text[] =
     "  -h, --help      Print help\n"
     "  -V, --version   Print version\n";
 
-enum { EXIT_FINDING = 1, EXIT_FAILED = 2 };
-// Maximum length of a log line, and of the output of hidlog_live for one line (hidlog.h).
+enum { EXIT_LOG_ERROR = 1, EXIT_FAILED = 2 };
+// Maximum length of a log line, and of the output of hidlog_key_replay_lines for one line (hidlog.h).
 enum { LINE_CAP = 255, LINE_OUT_CAP = 18000 };
 enum { MESSAGE_CAP = 64 };
 
@@ -103,7 +103,7 @@ static void close_log(FILE *file) {
 }
 
 // Reads the snapshot, if --load was used. Returns whether that succeeded. Fails if a checksum file PATH.hidlog-sum
-// exists, since this program cannot verify checksums. The error text is that of the proved program without --explain.
+// exists, since this program cannot verify checksums. An error's first line is that of the proved program with --plain.
 static int read_snapshot(const char *path, struct bytes *snapshot) {
     FILE *file, *sums;
     int is_read = 0;
@@ -289,7 +289,7 @@ static int run_file(const struct options *options, const char *path) {
     struct bytes snapshot;
     FILE *file = open_log(path);
     if (file == NULL) {
-        return print_error("cannot read log", EXIT_FINDING);
+        return print_error("cannot read log", EXIT_LOG_ERROR);
     }
     if (!read_snapshot(options->snapshot_path, &snapshot)) {
         exit(EXIT_FAILED);
@@ -382,7 +382,7 @@ int main(int count, char **words) {
 #endif
     int status = run(count, words);
     if (fflush(stdout) != 0 || ferror(stdout)) {
-        return print_error("writing failed", EXIT_FINDING);
+        return print_error("writing failed", EXIT_LOG_ERROR);
     }
     return status;
 }

@@ -1,6 +1,6 @@
 //! Links the static library for the target, from the folder HIDLOG_LIBRARY_FOLDER if that is set. If there is no
 //! library for the target, or HIDLOG_PORTABLE is set, compiles the portable library with the C compiler $CC [default:
-//! cc].
+//! cc, or x86_64-w64-mingw32-gcc to cross-compile for Windows].
 
 use std::env::var;
 use std::path::{Path, PathBuf};

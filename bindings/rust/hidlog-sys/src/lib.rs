@@ -1,4 +1,5 @@
-//! Raw bindings to the C library. Each function is documented in `lib/hidlog.h`. The crate `hidlog` is the safe API.
+//! Raw bindings to the C library. Each function is documented in `hidlog.h` (in the folder `lib` of the published
+//! crate). The crate `hidlog` is the safe API.
 #![no_std]
 #![allow(non_camel_case_types)]
 #![allow(clippy::missing_safety_doc)]

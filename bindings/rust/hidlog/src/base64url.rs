@@ -29,7 +29,7 @@ pub(crate) fn decode(text: &str) -> Option<Vec<u8>> {
 
 #[cfg(test)]
 mod tests {
-    /// The test vectors of RFC 4648, section 10, without padding.
+    /// Test vectors of RFC 4648, section 10, without padding, and both characters that differ from base64.
     #[test]
     fn matches_rfc_4648() {
         let rows = [("", ""), ("f", "Zg"), ("fo", "Zm8"), ("foo", "Zm9v"), ("foob", "Zm9vYg"), ("fooba", "Zm9vYmE")];

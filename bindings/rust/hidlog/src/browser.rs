@@ -1,3 +1,4 @@
+//! A simulated browser, and the options and responses of its calls.
 use crate::base64url;
 use crate::cbor::Item;
 use crate::client::{Ceremony, ClientCall};
@@ -66,7 +67,7 @@ pub struct RegistrationResponse {
     pub client_data: Vec<u8>,
     /// `attestationObject`.
     pub attestation_object: Vec<u8>,
-    /// `getAuthenticatorData()`.
+    /// The result of `getAuthenticatorData()`.
     pub authenticator_data: Vec<u8>,
     /// The result of `getPublicKey()`: a SubjectPublicKeyInfo.
     pub public_key: Vec<u8>,
@@ -185,8 +186,8 @@ fn read_member(json: &str, name: &str) -> Option<Vec<u8>> {
     base64url::decode(rest.split_once('"')?.0)
 }
 
-/// A simulated browser at an origin, with a security key. It registers and signs in as `navigator.credentials` of a
-/// page does.
+/// A simulated browser at an origin, with a security key. It registers and signs in as `navigator.credentials` does on
+/// a page.
 pub struct Browser {
     /// The security key.
     pub key: SecurityKey,
@@ -214,18 +215,19 @@ impl Browser {
     /// # Errors
     ///
     /// [`Error::Dom`] if a page would get an error, such as `NotAllowedError`. [`Error::InvalidResponse`] or
-    /// [`Error::OpenSsl`] if the key fails.
+    /// [`Error::OpenSsl`] if the key fails. [`Error::InvalidArgument`] if the request or the response is too long.
     pub fn create(&mut self, options: &CreationOptions) -> Result<RegistrationResponse, Error> {
         RegistrationResponse::parse(self.create_json(&options.to_json())?).ok_or(Error::InvalidResponse)
     }
 
     /// Registers a credential. The options are `PublicKeyCredentialCreationOptionsJSON`, and the result is
-    /// `RegistrationResponseJSON`. Rejects the same options as Chromium.
+    /// `RegistrationResponseJSON`. Rejects the same options as Chromium, except that public suffixes with several
+    /// labels (`co.uk`) are not supported.
     ///
     /// # Errors
     ///
     /// [`Error::Dom`] if a page would get an error, such as `NotAllowedError`. [`Error::InvalidResponse`] or
-    /// [`Error::OpenSsl`] if the key fails.
+    /// [`Error::OpenSsl`] if the key fails. [`Error::InvalidArgument`] if the request or the response is too long.
     pub fn create_json(&mut self, options: &str) -> Result<String, Error> {
         self.call(Ceremony::Create, options, 0)
     }
@@ -235,7 +237,7 @@ impl Browser {
     /// # Errors
     ///
     /// [`Error::Dom`] if a page would get an error, such as `NotAllowedError`. [`Error::InvalidResponse`] or
-    /// [`Error::OpenSsl`] if the key fails.
+    /// [`Error::OpenSsl`] if the key fails. [`Error::InvalidArgument`] if the request or the response is too long.
     pub fn get(&mut self, options: &RequestOptions) -> Result<AuthenticationResponse, Error> {
         let json = self.call(Ceremony::Get, &options.to_json(), options.account)?;
         AuthenticationResponse::parse(json).ok_or(Error::InvalidResponse)
@@ -247,7 +249,7 @@ impl Browser {
     /// # Errors
     ///
     /// [`Error::Dom`] if a page would get an error, such as `NotAllowedError`. [`Error::InvalidResponse`] or
-    /// [`Error::OpenSsl`] if the key fails.
+    /// [`Error::OpenSsl`] if the key fails. [`Error::InvalidArgument`] if the request or the response is too long.
     pub fn get_json(&mut self, options: &str) -> Result<String, Error> {
         self.call(Ceremony::Get, options, 0)
     }
@@ -270,7 +272,8 @@ impl Browser {
         client.build_credential(&response).map_err(|error| self.with_cause(error, response[0]))
     }
 
-    /// Appends the key's cause to an error that a page would get, if the key rejected the request.
+    /// Appends the key's cause to an error that a page would get, if the key rejected the request and no status is
+    /// injected.
     fn with_cause(&mut self, error: Error, status: u8) -> Error {
         let is_rejected = status != 0 && self.key.faults.status.is_none();
         match (error, self.key.cause()) {
@@ -348,7 +351,7 @@ impl Browser {
     }
 
     /// Returns the authenticator data and the signature with these flags and the enabled faults. Signs changed data
-    /// again.
+    /// again, before it is truncated.
     fn alter_signed(
         &mut self,
         id: &Id,

@@ -1,4 +1,4 @@
-//! The subset of CBOR that CTAP 2.1 uses.
+//! The subset of CBOR in the key's requests and responses (CTAP 2.1, section 8).
 
 /// A CBOR data item. A map is encoded in the order of its `Vec`, which must be canonical (CTAP 2.1, section 8).
 #[derive(Clone, Debug, PartialEq, Eq)]
@@ -70,6 +70,7 @@ impl Item {
     }
 }
 
+/// Writes the head of an item. The argument must be below 65536.
 fn write_head(major: u8, argument: u64, to: &mut Vec<u8>) {
     if argument < 24 {
         to.push(major << 5 | argument as u8);

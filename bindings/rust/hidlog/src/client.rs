@@ -35,7 +35,7 @@ impl ClientCall<'_> {
     }
 
     /// Checks the options, and returns the request for the key: the command byte, then CBOR. Also returns whether the
-    /// response has user verification.
+    /// user is verified.
     pub(crate) fn build_request(&self) -> Result<(Vec<u8>, bool), Error> {
         let mut report = sys::hidlog_client_report::default();
         let mut out = vec![0; LONGEST_MESSAGE];

@@ -1,3 +1,4 @@
+//! The crate's error type.
 use crate::standard::status_name;
 use std::fmt;
 
@@ -13,9 +14,9 @@ pub enum Error {
     Status(u8),
     /// The error that a page would get: its name, such as `NotAllowedError`, and its message.
     Dom(&'static str, String),
-    /// A response of the key is not valid CTAP 2.1.
+    /// A response of the key is an ERROR packet, or not valid CTAP 2.1.
     InvalidResponse,
-    /// OpenSSL could not generate a key or sign.
+    /// OpenSSL could not generate a key or random bytes, or could not sign.
     OpenSsl,
 }
 
@@ -34,8 +35,8 @@ impl Error {
             match number {
                 -1 => "the key is not initialized",
                 -3 => "packets are queued: read them first",
-                -5 => "no such credential, or a text is longer than 64 bytes or not UTF-8",
-                -7 => "the key is busy",
+                -5 => "no credential has this ID",
+                -7 => "a request is in progress: provide what it needs first",
                 -8 => "another discoverable credential has the same RP and user",
                 -17 => "the bytes are not a snapshot",
                 -18 => "the key is full: its capacity is 64 credentials",
@@ -57,7 +58,7 @@ impl fmt::Display for Error {
             },
             Error::Dom(name, text) => write!(to, "{name}: {text}"),
             Error::InvalidResponse => write!(to, "hidlog: invalid response from the key"),
-            Error::OpenSsl => write!(to, "hidlog: OpenSSL could not generate a key or sign"),
+            Error::OpenSsl => write!(to, "hidlog: OpenSSL could not generate a key or random bytes, or could not sign"),
         }
     }
 }

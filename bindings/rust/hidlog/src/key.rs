@@ -1,3 +1,4 @@
+//! The authenticator: the verified core, with recordings.
 use crate::Error;
 use hidlog_sys as sys;
 use std::fmt::{self, Write};
@@ -24,7 +25,7 @@ pub enum Presence {
 /// What an authenticator needs from its caller to continue its request.
 #[derive(Clone, Debug, PartialEq, Eq)]
 pub enum Need {
-    /// Nothing: the authenticator is ready for packets.
+    /// Nothing: no request waits for the caller.
     None,
     /// User presence: [`Authenticator::provide_presence`].
     Presence,
@@ -59,19 +60,20 @@ pub struct Credential {
 /// recording.
 #[derive(Clone, Debug, Default, PartialEq, Eq)]
 pub struct Recording {
-    /// The snapshot of the credentials at the start; empty if there are none.
+    /// The snapshot of the credentials at the start; empty if the authenticator started without a snapshot.
     pub snapshot: Vec<u8>,
     /// The log.
     pub log: Vec<u8>,
 }
 
-/// Part of a key's memory, with the alignment that the library requires. Before Rust 1.77, that of `u128` is 8 on x86-64.
+/// Part of a key's memory, with the alignment that the library requires. (Before Rust 1.77, `u128` is aligned to only 8
+/// bytes on x86-64.)
 #[repr(align(16))]
 #[derive(Clone, Copy)]
 struct AlignedBlock(#[allow(dead_code)] [u8; 16]);
 
-/// The verified core alone: packets and replies in, packets out. Times are in milliseconds. Each input is recorded. An
-/// input that returns an error does not change the authenticator.
+/// The verified core alone: packets and replies in, packets out. Times are milliseconds since power-up. Every input is
+/// recorded, except one that returns an error, which does not change the authenticator.
 pub struct Authenticator {
     // While the key is initialized, `key` points to `_memory`, and the library requires that neither moves.
     key: Box<sys::hidlog_key>,
@@ -95,7 +97,7 @@ impl Authenticator {
         let mut key = Box::new(sys::hidlog_key { memory: memory.as_mut_ptr().cast(), state: 0 });
         let aaguid = [0u8; 16];
         // SAFETY: no pointer is null, not even that of an empty slice. The memory has the size that the library needs,
-        // is aligned to 16 bytes, and is not moved on the heap.
+        // is aligned to 16 bytes, and does not move, since it is on the heap.
         let status = unsafe { sys::hidlog_key_init(&mut *key, aaguid.as_ptr(), 0, snapshot.as_ptr(), snapshot.len()) };
         if status < 0 {
             return Err(Error::from_code(status));
@@ -233,7 +235,7 @@ impl Authenticator {
 
     /// Begins a new recording after a change of the credentials, which power-cycles the authenticator. If `status`, the
     /// result of the change, is an error, returns the error.
-    fn restart_recording(&mut self, status: i32) -> Result<(), Error> {
+    fn begin_recording(&mut self, status: i32) -> Result<(), Error> {
         if status < 0 {
             return Err(Error::from_code(status));
         }
@@ -242,7 +244,8 @@ impl Authenticator {
         Ok(())
     }
 
-    /// Adds a credential. A credential with the same ID is replaced.
+    /// Adds a credential, or replaces the one with the same ID. Like `remove` and `clear`, it power-cycles the
+    /// authenticator.
     ///
     /// # Errors
     ///
@@ -254,7 +257,7 @@ impl Authenticator {
         }
         // SAFETY: the key is initialized.
         let status = unsafe { sys::hidlog_key_add_credential(&mut *self.key, 0, &to_c_credential(credential)) };
-        self.restart_recording(status)
+        self.begin_recording(status)
     }
 
     /// Removes the credential with this ID.
@@ -265,7 +268,7 @@ impl Authenticator {
     pub fn remove(&mut self, id: &Id) -> Result<(), Error> {
         // SAFETY: the key is initialized.
         let status = unsafe { sys::hidlog_key_remove_credential(&mut *self.key, 0, id.as_ptr()) };
-        self.restart_recording(status)
+        self.begin_recording(status)
     }
 
     /// Removes all credentials.
@@ -276,10 +279,11 @@ impl Authenticator {
     pub fn clear(&mut self) -> Result<(), Error> {
         // SAFETY: the key is initialized.
         let status = unsafe { sys::hidlog_key_clear_credentials(&mut *self.key, 0) };
-        self.restart_recording(status)
+        self.begin_recording(status)
     }
 
-    /// Returns the credentials, without private keys, as a snapshot for [`Authenticator::new`] and `hidlog --load`.
+    /// Returns the credentials, without private keys, as a snapshot for [`Authenticator::new`] and `hidlog check
+    /// --load`.
     pub fn snapshot(&mut self) -> Vec<u8> {
         let mut out = vec![0; sys::HIDLOG_SNAPSHOT_MAX_LEN];
         // SAFETY: the key is initialized, and the length is that of the buffer.
@@ -295,7 +299,7 @@ impl Authenticator {
         log.extend_from_slice(format!("# {text}\n").as_bytes());
     }
 
-    /// Returns all recordings, oldest first. A new recording begins at each `add`, `remove` and `clear`.
+    /// Returns all recordings, oldest first. `add`, `remove` and `clear` begin a new recording if they succeed.
     pub fn recordings(&self) -> &[Recording] {
         &self.recordings
     }

@@ -1,3 +1,4 @@
+//! The properties of a key that browsers report or depend on.
 use hidlog_sys as sys;
 
 // Flags of authenticator data (WebAuthn Level 3, section 6.1).

@@ -57,7 +57,7 @@ pub(crate) fn random_bytes<const N: usize>() -> Result<[u8; N], Error> {
 /// A private key on P-256.
 pub struct PrivateKey(*mut c_void);
 
-// SAFETY: OpenSSL's keys are not bound to a thread, and the calls below only read them.
+// SAFETY: OpenSSL's keys are not bound to a thread, and a `PrivateKey` is the only owner of its key.
 unsafe impl Send for PrivateKey {}
 
 impl PrivateKey {
@@ -101,8 +101,8 @@ impl PrivateKey {
     ///
     /// [`Error::OpenSsl`] if OpenSSL fails.
     pub fn public_key(&self) -> Result<Vec<u8>, Error> {
-        // The DER before the point (RFC 5480): the algorithm ecPublicKey, the curve prime256v1, and the head of the bit
-        // string.
+        // The DER before the coordinates (RFC 5480): the algorithm ecPublicKey, the curve prime256v1, the head of the bit
+        // string, and the 4 with which an uncompressed point begins.
         const SPKI_PREFIX: [u8; 27] = [
             0x30, 0x59, 0x30, 0x13, 0x06, 0x07, 0x2a, 0x86, 0x48, 0xce, 0x3d, 0x02, 0x01, 0x06, 0x08, 0x2a, 0x86, 0x48,
             0xce, 0x3d, 0x03, 0x01, 0x07, 0x03, 0x42, 0x00, 0x04,

@@ -1,10 +1,11 @@
+//! An authenticator with private keys and a simulated user.
 use crate::private_keys::{random_bytes, PrivateKey};
 use crate::standard::{self, CONTINUATION_DATA, INITIALIZATION_DATA, LONGEST_MESSAGE};
 use crate::{Authenticator, AuthenticatorOptions, Credential, Error, Id, Need, Packet, Presence, Recording};
 use std::collections::HashMap;
 use std::time::Instant;
 
-// CTAPHID commands, with the bit of initialization packets set (CTAP 2.1, section 11.2.4).
+// CTAPHID commands, with bit 7 set, which marks initialization packets (CTAP 2.1, section 11.2.4).
 const COMMAND_INIT: u8 = 0x80 | standard::INIT;
 const COMMAND_CBOR: u8 = 0x80 | standard::CBOR;
 const COMMAND_KEEPALIVE: u8 = 0x80 | standard::KEEPALIVE;
@@ -17,11 +18,11 @@ pub struct Faults {
     pub status: Option<u8>,
     /// If true, signs with a different private key.
     pub bad_signature: bool,
-    /// If true, repeats the signature counter of the previous response, with a valid signature.
+    /// If true, repeats the signature counter of the credential's previous response, with a valid signature.
     pub stale_sign_count: bool,
     /// If set, the RP ID whose hash replaces the one in the authenticator data, with a valid signature.
     pub wrong_rp_id: Option<String>,
-    /// The number of bytes to remove from the end of the authenticator data.
+    /// The number of bytes to remove from the end of the authenticator data after signing.
     pub truncate_by: usize,
 }
 
@@ -29,7 +30,7 @@ pub struct Faults {
 pub struct SecurityKey {
     authenticator: Authenticator,
     /// The sequence of what the user does when the key asks for a touch. The last element is repeated. If the sequence
-    /// is empty, the user grants every touch.
+    /// is empty, the user always touches the key.
     pub presence: Vec<Presence>,
     /// The faults to inject.
     pub faults: Faults,
@@ -108,7 +109,7 @@ impl SecurityKey {
         self.authenticator.clear()
     }
 
-    /// Returns all recordings, oldest first. A new recording begins at each `add`, `remove` and `clear`.
+    /// Returns all recordings, oldest first. `add`, `remove` and `clear` begin a new recording if they succeed.
     pub fn recordings(&self) -> &[Recording] {
         self.authenticator.recordings()
     }
@@ -183,13 +184,14 @@ impl SecurityKey {
         self.authenticator.cause()
     }
 
-    /// Sends an authenticator command and its CBOR parameters, and returns the response after the status byte.
+    /// Sends an authenticator command and its CBOR parameters, and returns the response after the status byte. Of the
+    /// `faults`, only `status` is injected here, and the others by browsers.
     ///
     /// # Errors
     ///
-    /// [`Error::Status`] if the status byte is not 0; `cause` returns why. [`Error::InvalidArgument`] if the request is
-    /// empty or longer than 7609 bytes. [`Error::InvalidResponse`] if the response is not valid. [`Error::OpenSsl`] if
-    /// OpenSSL fails.
+    /// [`Error::Status`] if the status byte is not 0 or a status is injected; `cause` returns why the key rejected the
+    /// request. [`Error::InvalidArgument`] if the request is empty or longer than 7609 bytes.
+    /// [`Error::InvalidResponse`] if the response is not valid. [`Error::OpenSsl`] if OpenSSL fails.
     pub fn exchange(&mut self, request: &[u8]) -> Result<Vec<u8>, Error> {
         if request.is_empty() || request.len() > LONGEST_MESSAGE {
             return Err(Error::InvalidArgument("a request must have 1 to 7609 bytes"));

@@ -27,12 +27,12 @@ fn sign_count(assertion: &AuthenticationResponse) -> u32 {
     u32::from_be_bytes(assertion.authenticator_data[33..37].try_into().unwrap())
 }
 
-fn is_verified(browser: &Browser, assertion: &AuthenticationResponse) -> bool {
+fn has_valid_signature(browser: &Browser, assertion: &AuthenticationResponse) -> bool {
     let signed = [&assertion.authenticator_data[..], &sha256(&assertion.client_data)].concat();
     browser.key.private_key(&assertion.id).unwrap().verify(&signed, &assertion.signature)
 }
 
-/// Runs `hidlog check` on each recording.
+/// Runs `hidlog check` on each recording, if the program hidlog is found.
 fn check_recordings(recordings: &[Recording]) {
     let program = std::env::var("HIDLOG_PROGRAM").unwrap_or_else(|_| "../../../release/hidlog".into());
     if !std::path::Path::new(&program).exists() {
@@ -69,7 +69,7 @@ fn registers_and_signs_in() {
     for expected in 1..4 {
         let used = browser.get(&request_options()).unwrap();
         assert_eq!((used.id, used.user_handle.as_deref(), sign_count(&used)), (made.id, Some(&b"ann"[..]), expected));
-        assert!(is_verified(&browser, &used));
+        assert!(has_valid_signature(&browser, &used));
         let text = String::from_utf8(used.client_data.clone()).unwrap();
         let challenge = r#""challenge":"YSBjaGFsbGVuZ2U","origin":"https://login.example.com""#;
         assert!(text.starts_with(r#"{"type":"webauthn.get","#) && text.contains(challenge), "{text}");
@@ -109,7 +109,7 @@ fn applies_authenticator_options() {
     let made = browser.create_json(options).unwrap();
     assert!(made.contains(r#""attestationObject":"o2NmbXRkbm9uZWdhdHRTdG10oGhhdXRoRGF0Y"#), "{made}");
     assert_eq!(read_flags(&made), 0x5d);
-    // The flags BE and BS are those of the credential.
+    // The flags BE and BS belong to the credential, so changing the options does not clear them.
     browser.key.options = verified;
     browser.mediation = "conditional".into();
     assert_eq!(read_flags(&browser.get_json(required).unwrap()), 0x1d);
@@ -122,7 +122,7 @@ fn applies_authenticator_options() {
     assert_eq!(browser.get_json(required).unwrap_err().dom_name(), Some("TypeError"));
     browser.mediation = "optional".into();
     let used = browser.get(&request_options()).unwrap();
-    assert!(used.authenticator_data[32] == 0x19 && is_verified(&browser, &used));
+    assert!(used.authenticator_data[32] == 0x19 && has_valid_signature(&browser, &used));
     check_recordings(browser.key.recordings());
 }
 
@@ -207,20 +207,20 @@ fn injects_faults() {
     let before = sign_count(&browser.get(&request_options()).unwrap());
     browser.key.faults = Faults { stale_sign_count: true, ..Faults::default() };
     let used = browser.get(&request_options()).unwrap();
-    assert!(sign_count(&used) == before && is_verified(&browser, &used));
+    assert!(sign_count(&used) == before && has_valid_signature(&browser, &used));
     browser.key.faults = Faults { bad_signature: true, ..Faults::default() };
     let used = browser.get(&request_options()).unwrap();
-    assert!(!is_verified(&browser, &used));
+    assert!(!has_valid_signature(&browser, &used));
     browser.key.faults = Faults { wrong_rp_id: Some("example.org".into()), ..Faults::default() };
     let used = browser.get(&request_options()).unwrap();
-    assert!(used.authenticator_data[..32] == sha256(b"example.org") && is_verified(&browser, &used));
+    assert!(used.authenticator_data[..32] == sha256(b"example.org") && has_valid_signature(&browser, &used));
     browser.key.faults = Faults { truncate_by: 4, ..Faults::default() };
     assert_eq!(browser.get(&request_options()).unwrap().authenticator_data.len(), 33);
     browser.key.faults = Faults { status: Some(0x30), ..Faults::default() };
     assert_eq!(browser.get(&request_options()).unwrap_err().dom_name(), Some("NotAllowedError"));
     browser.key.faults = Faults::default();
     let used = browser.get(&request_options()).unwrap();
-    assert!(sign_count(&used) > before + 4 && is_verified(&browser, &used));
+    assert!(sign_count(&used) > before + 4 && has_valid_signature(&browser, &used));
     check_recordings(browser.key.recordings());
 }
 
