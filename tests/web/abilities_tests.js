@@ -2,8 +2,10 @@
 // credential IDs of other lengths, backup flags, and the options of DevTools. compare.js compares the options with
 // Chromium's virtual authenticator.
 import { install, SecurityKey, sendDevToolsCommand } from "../../bindings/web/dist/security_key.mjs";
+import {
+    createCredential, getAssertion, getAssertionWith, makeOptionsForUser, expectError, toBase64url, makeKeyTest,
+} from "./ceremonies.js";
 import { expect, results } from "./harness.js";
-import { createCredential, getAssertion, getAssertionWith, makeOptionsForUser, expectError, toBase64url, makeKeyTest } from "./options.js";
 
 const VERIFYING_OPTIONS = { hasUserVerification: true, isUserVerified: true };
 const required = { authenticatorSelection: { userVerification: "required", residentKey: "required" } };

@@ -69,7 +69,7 @@ const register = (more) => navigator.credentials.create({ publicKey: makeCreatio
 /** Signs in with these options, and returns what the page sees. */
 const get = async (publicKey, more = {}) => describeSignIn(await navigator.credentials.get({ publicKey, ...more }));
 
-/** Returns a call that registers, and signs in with these options. */
+/** Returns a call that registers a credential, and signs in with it and these options. */
 const makeSignIn = (options = {}, more = {}) => async () => get({ ...makeRequestOptions(await register()), ...options }, more);
 
 /** Starts two requests, and returns the name of each one's error, or "done". */
@@ -421,7 +421,7 @@ export const listCalls = (environment) => ({
 const PENDING_MS = 30_000;
 
 const rejectAfterTimeout = () => new Promise((done, fail) => {
-    setTimeout(() => fail(new Error("the call never ended")), PENDING_MS);
+    setTimeout(() => fail(new Error(`the call did not end within ${PENDING_MS / 1000} s`)), PENDING_MS);
 });
 
 /** The result of a call: a value, or an error's name and message. */

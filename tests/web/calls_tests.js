@@ -2,11 +2,12 @@
 // receives.
 import { install } from "../../bindings/web/dist/security_key.mjs";
 import { listCalls, summarizeResult, getResult } from "./calls.js";
-import { loadFrame, loadResult } from "./frames.js";
-import { expect, results } from "./harness.js";
-import { createCredential, makeCreationOptions, getAssertion, getAssertionWith, makeOptionsForUser, toBase64url, makeKeyTest } from "./options.js";
+import {
+    createCredential, makeCreationOptions, getAssertion, getAssertionWith, makeOptionsForUser, toBase64url,
+    makeKeyTest, isSelfAttested,
+} from "./ceremonies.js";
+import { expect, results, loadFrame, loadResult } from "./harness.js";
 import { AUTHENTICATOR_KINDS, mayDiffer } from "./reasons.js";
-import { isSelfAttested } from "./signatures.js";
 
 /**
  * Returns a message for each call whose result differs from that of Chromium's virtual authenticator with the same
@@ -41,13 +42,13 @@ const testSameResultsAsChromium = async () => {
     expect(!wrong.length, wrong.join("\n"));
 };
 
-const REGISTRATION = ["attestationObject", "authenticatorData", "clientDataJSON", "publicKey", "publicKeyAlgorithm",
+const REGISTRATION_MEMBERS = ["attestationObject", "authenticatorData", "clientDataJSON", "publicKey", "publicKeyAlgorithm",
     "transports"];
 
 const testToJson = async () => {
     const made = await createCredential(makeOptionsForUser("ann"));
     const json = JSON.parse(JSON.stringify(made));
-    expect(Object.keys(json.response).sort().join() === REGISTRATION.join(), "the members of a registration");
+    expect(Object.keys(json.response).sort().join() === REGISTRATION_MEMBERS.join(), "the members of a registration");
     expect(json.response.publicKey === toBase64url(made.response.getPublicKey()), "the public key");
     expect(json.response.authenticatorData === toBase64url(made.response.getAuthenticatorData()), "authenticator data");
     expect(json.response.publicKeyAlgorithm === -7 && json.response.transports.join() === "usb", "the rest");

@@ -4,7 +4,7 @@ import assert from "node:assert/strict";
 import { test } from "node:test";
 import { install } from "../../bindings/web/dist/security_key.mjs";
 import { ORIGIN, runCases } from "./cases.mjs";
-import { importPublicKey, isSelfAttested, isSignedBy } from "./signatures.js";
+import { importPublicKey, isSelfAttested, isSignedBy } from "./ceremonies.js";
 
 const PARSERS = { create: "parseCreationOptionsFromJSON", get: "parseRequestOptionsFromJSON" };
 const USER = { id: Uint8Array.of(1), name: "ann", displayName: "Ann" };

@@ -2,8 +2,8 @@
 // sees. Each difference must have a known reason.
 import { install } from "../../bindings/web/dist/security_key.mjs";
 import { listCalls, summarizeResult, getResult } from "./calls.js";
+import { createCredential, getAssertionWith } from "./ceremonies.js";
 import { post, results } from "./harness.js";
-import { createCredential, getAssertionWith } from "./options.js";
 import { AUTHENTICATOR_KINDS, findReason } from "./reasons.js";
 
 // The names of protocols in DevTools.

@@ -1,8 +1,10 @@
 // Tests the methods of a virtual authenticator, for credentials, presence, events and faults, and DevTools commands.
 import { installedKey, sendDevToolsCommand } from "../../bindings/web/dist/security_key.mjs";
+import {
+    readSignCount, createCredential, getAssertion, getAssertionWith, makeOptionsForUser, P256, expectError,
+    toBase64url, makeKeyTest, importPublicKey, isSignedBy,
+} from "./ceremonies.js";
 import { expect, results } from "./harness.js";
-import { readSignCount, createCredential, getAssertion, getAssertionWith, makeOptionsForUser, P256, expectError, toBase64url, makeKeyTest } from "./options.js";
-import { importPublicKey, isSignedBy } from "./signatures.js";
 
 // A delay in milliseconds that does not end during a test, even on a slow machine.
 const LONG_DELAY_MS = 1_000_000;

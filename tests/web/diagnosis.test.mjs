@@ -3,8 +3,46 @@
 import assert from "node:assert/strict";
 import { readdirSync, readFileSync } from "node:fs";
 import { test } from "node:test";
-import { diagnose } from "./diagnose_in_node.mjs";
-import { resolvePath } from "./session_in_node.mjs";
+import vm from "node:vm";
+import { core, readSession, resolvePath } from "./session_in_node.mjs";
+
+const MISMATCH = 3;
+const runScript = (name) => vm.runInThisContext(readFileSync(resolvePath(`bindings/web/${name}`), "utf8"));
+["dist/sources.js", "show_text.js", "narrative.js", "worker.js", "difference.js", "judge.js"].forEach(runScript);
+const sources = globalThis.hidlogBackground.readSources();
+["dist/judge.js", "dist/wasm_key.js"].forEach((name) => vm.runInThisContext(sources[name]));
+["diagnosis_work.js", "incomplete.js", "diagnosis.js"].forEach(runScript);
+const { assignFindings, decide } = globalThis.hidlogDiagnosis;
+const difference = globalThis.hidlogDifference;
+
+/** The first difference of a log from what the key sends, or null if the log has no difference or is not the key's. */
+const findDifference = ({ isOwn, outcome }, recorded, shown, log, snapshot) => {
+    if (!isOwn || outcome.status !== 1 || outcome.errorCode !== MISMATCH) {
+        return null;
+    }
+    const replayed = readSession(core.run("replay", log, snapshot).text);
+    const found = difference.find(recorded, replayed, outcome);
+    found.explained = difference.explain(found, shown);
+    const isRejection = found.explained[0].some((text) => text.includes("CTAP2_ERR_NO_CREDENTIALS"));
+    return { ...found, sentence: difference.toSentence(found), isRejection };
+};
+
+/**
+ * Whether a log has packets of the key. For a log of inputs only, the page shows the packets that the key would send.
+ */
+const hasResponses = (bytes) => globalThis.hidlogLog.hasMatch(bytes, /^< /m);
+
+/**
+ * The diagnosis of a log that the key can replay, as bindings/web/diagnosis_card.js computes it: who is at fault, and why.
+ */
+const diagnose = async (bytes, snapshot = new Uint8Array(0)) => {
+    const log = hasResponses(bytes) ? bytes : core.run("replay", bytes, snapshot).text;
+    const found = await globalThis.hidlogDiagnosisWork.examine(core, log, snapshot, () => {});
+    const examined = assignFindings(found);
+    const session = readSession(log);
+    const shown = new globalThis.hidlogShown.LineTexts(core);
+    return decide(examined, { session, shown, difference: findDifference(examined, session, shown, log, snapshot) });
+};
 
 // Folders of sessions with this project's key that pass `hidlog check`, and of captures and clients' sessions.
 const FOLDERS = ["examples/", "crates/hidlog_cli/data/capacity_64/", "conformance/recorded/", "tests/captures/data/"];
@@ -29,7 +67,7 @@ test("no conforming recording is blamed on the key", async () => {
     }
 });
 
-test("credentials of before the recording are missing, or are those of its snapshot", async () => {
+test("a log without the credentials with which the session began", async () => {
     const verdict = await diagnose(readBytes(SIGN_IN_AGAIN));
     assert.deepEqual([verdict.side, verdict.title], ["capture", "lacks the credentials with which the session began"]);
 });
@@ -82,12 +120,12 @@ const EARLY_RESPONSE_LOG = [
     "> 1 0000000590009001", "< 0000000590000112",
 ].map((line) => line.replace(/[0-9a-f]+$/, (digits) => digits.padEnd(128, "0")));
 
-test("another key that responds too early is blamed itself", async () => {
+test("another key that responds too early is blamed", async () => {
     const verdict = await diagnose(encode(EARLY_RESPONSE_LOG));
     assert.deepEqual([verdict.side, verdict.line], ["key", 4], describeVerdict(verdict));
 });
 
-test("a log says which response it ends before", async () => {
+test("the diagnosis names the response before which a log ends", async () => {
     const lines = readLines("tests/captures/data/libfido2_register.log");
     const make = lines.findIndex((text) => /^> \d+ [0-9a-f]{8}90[0-9a-f]{4}01/.test(text));
     const end = lines.findIndex((text, at) => at > make && /^< [0-9a-f]{8}90/.test(text));

@@ -21,7 +21,7 @@ const openSession = (name) => {
 
 const listAll = (fields) => fields.flatMap((field) => [field, ...listAll(field.inner)]);
 
-/** The fields of the message of a line, by the first words of their texts. */
+/** The fields of a line's message, its packets, and a function that finds a field's ranges by the start of its text. */
 const findFields = (name, line) => {
     const { session, explain } = openSession(name);
     const { fields, packets } = makeAllFields([session.line(line - 1).message], explain);
@@ -78,7 +78,7 @@ test("the bytes of an INIT response, by hand", () => {
     assert.deepEqual(find("capabilities 0c"), [[23, 24]]);
 });
 
-/** The last digits of a field's bytes in the field's text, or "" if the text has none. */
+/** The hexadecimal digits with which a field's bytes end, as the field's text shows them; "" if it shows none. */
 const readDigits = (text) => {
     const [, name, value] = /^ +(?:-?\d+ )?"?(\w+)"?:? (\S.*)$/.exec(text) ?? [];
     if (!name || ["channel", "command", "length"].includes(name)) {
@@ -92,7 +92,7 @@ const readDigits = (text) => {
         ?? (name === "flags" ? value.slice(0, 2) : ""));
 };
 
-test("each field with digits has just these bytes, in all logs", () => {
+test("the bytes of each field that shows digits end with them, in all logs", () => {
     let found = 0;
     for (const folder of LOG_FOLDERS) {
         for (const name of readdirSync(resolvePath(folder)).filter((each) => each.endsWith(".log"))) {

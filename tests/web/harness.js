@@ -1,4 +1,5 @@
-// Runs the tests of a page one after another, and posts the results to the server that started the browser.
+// Runs the tests of a page one after another, and posts the results to the server that started the browser. Also has
+// functions for tests: conditions, waits and frames.
 
 export const results = { tests: [], figures: [], logs: {} };
 
@@ -45,6 +46,35 @@ export const post = async (path, body) => {
     return reply;
 };
 
+/** Loads a page with its own key in a new frame, and returns the frame. */
+export const loadFrame = async (address, allow = "") => {
+    const frame = document.createElement("iframe");
+    frame.allow = allow;
+    frame.src = address;
+    const loaded = new Promise((done) => frame.addEventListener("load", done, { once: true }));
+    document.body.append(frame);
+    await loaded;
+    return frame;
+};
+
+/** Reloads a frame's page. */
+export const reload = async (frame) => {
+    const loaded = new Promise((done) => frame.addEventListener("load", done, { once: true }));
+    frame.contentWindow.location.reload();
+    await loaded;
+};
+
+/** Loads a page that posts a result, and returns the result. */
+export const loadResult = async (address, allow) => {
+    const posted = new Promise((done) => {
+        addEventListener("message", ({ data }) => done(data), { once: true });
+    });
+    const frame = await loadFrame(address, allow);
+    const result = await posted;
+    frame.remove();
+    return result;
+};
+
 /** Starts a worker that reports that the page is alive, however long a test takes. */
 const startHeartbeat = () => {
     const text = `setInterval(() => fetch("${location.origin}/lives", { method: "POST", body: "{}" }), ${HEARTBEAT_MS})`;
@@ -65,10 +95,11 @@ const runTest = async (name, test) => {
 
 /** Runs tests by name, or only the tests that `only` in the page's address names, and posts the results. */
 export const run = async (tests) => {
-    const only = new URLSearchParams(location.search).getAll("only");
+    const addressed = new URLSearchParams(location.search);
+    const only = addressed.getAll("only");
     const heartbeat = startHeartbeat();
     for (const [name, test] of Object.entries(tests).filter(([name]) => !only.length || only.includes(name))) {
-        await post("/begun", { page: location.pathname.split("/").at(-1), test: name });
+        await post("/begun", { module: addressed.get("module"), test: name });
         results.tests.push(await runTest(name, test));
     }
     document.body.textContent = JSON.stringify(results.tests, null, 1);

@@ -41,7 +41,7 @@ test("what zlib packs is unpacked", () => {
     }
 });
 
-test("damaged data end in an error or in other bytes, never without an end", () => {
+test("damaged data results in an error or in other bytes", () => {
     const whole = pack(SAMPLES.text.subarray(0, 2000), { level: 9 });
     for (let at = 0; at < whole.length; at += 1) {
         assert.throws(() => unpack(whole.subarray(0, at)), Error, `cut at ${at}`);

@@ -7,7 +7,7 @@ import { install } from "../../bindings/web/dist/security_key.mjs";
 const RP_ID = "example.com";
 const encode = (text) => Buffer.from(text).toString("base64url");
 
-/** Runs a test with an installed key. */
+/** Returns a test that runs with an installed key. */
 const withKey = (run) => async () => {
     const key = install({ origin: `https://${RP_ID}` });
     try {

@@ -23,11 +23,12 @@ import judged  # noqa: E402
 from driver import Driver, is_installed  # noqa: E402
 from hidlog.errors import LogError  # noqa: E402
 from hidlog_conformance import judged_report  # noqa: E402
+from hidlog_conformance.session_file import read_logs  # noqa: E402
 from proved_walk import judge  # noqa: E402
 
 PAGE = TOP / "bindings" / "web" / "index.html"
 LONG_BYTES = 1_400_000
-FOLDERS = ("examples", "tests/captures/data", "conformance/clients/logs", "conformance/recorded", "conformance/fuzzed")
+FOLDERS = ("examples", "tests/captures/data", "conformance/recorded", "conformance/clients", "conformance/fuzzed")
 # Every EACH-th faulty authenticator is recorded, and these conforming ones are recorded in every SESSIONS-th session.
 EACH, CONFORMING, SESSIONS = 7, ("plain", "fingerprint_and_pin", "attestation_x5c_eddsa"), 45
 
@@ -72,6 +73,8 @@ def iter_logs(folders: List[str]) -> Iterator[Tuple[str, bytes]]:
     for folder in (*FOLDERS, *folders):
         for path in sorted((TOP / folder).rglob("*.log")):
             yield str(path), path.read_bytes()
+        for path in sorted((TOP / folder).rglob("*.logs")):
+            yield from ((f"{path}: {name}", log) for name, log in read_logs(str(path)).items())
     yield "no log", b"> 1 zz\n"
     # The page judges a log of this length in several parts.
     session = (TOP / "examples" / "failing" / "excluded_credential.log").read_bytes()

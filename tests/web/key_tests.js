@@ -1,8 +1,15 @@
 // Tests the key, which replaces navigator.credentials, with python-fido2's server.
 import { install, SecurityKey } from "../../bindings/web/dist/security_key.mjs";
-import { expect, post, getRejection, results, waitUntil } from "./harness.js";
-import { makeCreationOptions, P256 } from "./options.js";
-import { importPublicKey } from "./signatures.js";
+import { abilitiesTests } from "./abilities_tests.js";
+import { callsTests } from "./calls_tests.js";
+import { makeCreationOptions, P256, importPublicKey } from "./ceremonies.js";
+import { credentialsTests } from "./credentials_tests.js";
+import { guardTests } from "./guard_tests.js";
+import { expect, post, getRejection, results, run, waitUntil } from "./harness.js";
+import { readmeTests } from "./readme_tests.js";
+import { recordingsTests } from "./recordings_tests.js";
+import { stateTests } from "./state_tests.js";
+import { waitsTests } from "./waits_tests.js";
 
 // A delay in milliseconds that does not end during a test, even on a slow machine.
 const LONG_DELAY_MS = 1_000_000;
@@ -12,15 +19,15 @@ const decodeBase64url = (text) => {
     return Uint8Array.from(plain, (letter) => letter.charCodeAt(0));
 };
 
-/** Converts the JSON options of a server, as a page does. */
+/** Decodes the JSON options of a server, as a page does. */
 const decodeOptions = ({ publicKey }) => {
-    const listIds = (list) => list?.map((descriptor) => ({ ...descriptor, id: decodeBase64url(descriptor.id) }));
+    const decodeDescriptors = (list) => list?.map((descriptor) => ({ ...descriptor, id: decodeBase64url(descriptor.id) }));
     const options = { ...publicKey, challenge: decodeBase64url(publicKey.challenge) };
     if (publicKey.user) {
         options.user = { ...publicKey.user, id: decodeBase64url(publicKey.user.id) };
     }
-    options.excludeCredentials = listIds(publicKey.excludeCredentials);
-    options.allowCredentials = listIds(publicKey.allowCredentials);
+    options.excludeCredentials = decodeDescriptors(publicKey.excludeCredentials);
+    options.allowCredentials = decodeDescriptors(publicKey.allowCredentials);
     return options;
 };
 
@@ -45,7 +52,7 @@ const makeSteadyClock = () => {
     return (passed = 1) => (timeMs += passed);
 };
 
-/** A test with its own key, whose recording is kept. */
+/** Returns a test that installs its own key, and keeps its log. */
 const makeKeyTest = (log, test, options = {}) => async () => {
     const before = navigator.credentials;
     const key = await install({ clock: makeSteadyClock(), ...options });
@@ -210,7 +217,7 @@ const testProcessorTime = async () => {
         + ` ${ROUNDS}; the first ${ROUNDS} took ${all.first.toFixed(2)} ms)`);
 };
 
-export const keyTests = {
+const keyTests = {
     "a registration and two sign-ins": makeKeyTest("registration_and_sign_in.log", testRegisterAndSignIn),
     "a discoverable credential": makeKeyTest("discoverable.log", testDiscoverableSignIn),
     "two accounts": makeKeyTest("two_accounts.log", testAccountSelection),
@@ -223,3 +230,8 @@ export const keyTests = {
     "unsupported options": makeKeyTest("refused.log", testUnsupportedRequests),
     "how long it takes": testProcessorTime,
 };
+
+run({
+    ...keyTests, ...waitsTests, ...stateTests, ...callsTests, ...credentialsTests, ...abilitiesTests,
+    ...recordingsTests, ...readmeTests, ...guardTests,
+});

@@ -1,7 +1,11 @@
-// Tests bindings/web/index.html with long logs: rows appear while the rest is read, and the page never blocks. The
-// times are printed. They are checked only if the address has `quiet`, for an idle machine (bench/page.sh).
+// Tests bindings/web/index.html with long logs: rows appear while the rest is read, and the page stays responsive.
+// The times are printed. They are checked only if the address has `quiet`, for an idle machine (bench/page.sh).
 import { expect, results, run, waitUntil, sleep } from "./harness.js";
-import { getElement, chooseValue, encodeText, readNotice, openLog, getPage, listRows, listTexts } from "./viewing.js";
+import {
+    chooseValue, encodeText, frame, getElement, getPage, listRows, listTexts, openLog, readNotice,
+} from "./viewing.js";
+
+frame.height = 700;
 
 const isQuiet = new URLSearchParams(location.search).has("quiet");
 const MAX_MS_TO_FIRST_ROW = isQuiet ? 1000 : Infinity;

@@ -85,7 +85,7 @@ const count = await runCases({
 browser.stdin.end();
 console.log(`ok  npx hidlog browser: ${count} cases recorded from Chromium`);
 
-// Invalid arguments must cause an exit status, and an error message of one line that lists the valid arguments.
+// Invalid arguments must result in the exit status 1 or 2, and in an error message of one line.
 for (const [words, status, expected] of [
     [["chek", "a.log"], 2, "expected one of check"], [["check", "nothing.log"], 1, "nothing.log"],
     [["check", "--lod", "x"], 2, "--help"], [["check", "--load"], 2, "snapshot"], [["browser"], 2, "--origin"],

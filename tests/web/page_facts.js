@@ -4,13 +4,13 @@
 
 (() => {
     const MIN_CONTRAST = 4.5;
-    // A pixel of rounding.
+    // Number of pixels by which boxes may overlap, since their sizes are rounded.
     const TOLERANCE = 1;
     const TEXTS = "button, label, span, p, h1, h2, pre, mark, select, dt, dd, kbd, summary, li, #notice";
     const CONTROLS = "button, select, input:not([type=file]), .button";
     const BLOCKS = "header > *, #scroller, #two-logs, #detail-head, #detail-text, #hex-pane, #empty";
 
-    /** The brightness of a colour, as WCAG 2.1 computes it. */
+    /** The relative luminance of a colour (WCAG 2.1). */
     const computeLuminance = (colour) => {
         const parts = colour.match(/[\d.]+/g).slice(0, 3).map((part) => part / 255);
         const [red, green, blue] = parts.map((part) => (part <= 0.04045 ? part / 12.92 : ((part + 0.055) / 1.055) ** 2.4));
@@ -74,7 +74,7 @@
         return found;
     };
 
-    /** Controls whose text is cut off, and a page that is wider than its window. */
+    /** Buttons whose text is cut off, and a page that is wider than its window. */
     const findCutOffTexts = (page) => {
         const { documentElement } = page.document;
         const isCut = (element) => element.scrollWidth > element.clientWidth + TOLERANCE;

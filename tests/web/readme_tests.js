@@ -1,8 +1,8 @@
 // Runs the JavaScript and HTML snippets of bindings/web/README.md unchanged, and compares the Python snippet with the
 // example.
 import "../../bindings/web/dist/security_key.mjs";
+import { createCredential, getAssertion, makeOptionsForUser } from "./ceremonies.js";
 import { expect, results } from "./harness.js";
-import { createCredential, getAssertion, makeOptionsForUser } from "./options.js";
 
 const CODE_BLOCK = /^```(\w+)(?: (\w+))?\n([\s\S]*?)^```$/gm;
 const AsyncFunction = (async () => {}).constructor;
@@ -48,7 +48,7 @@ const testScriptTags = async () => {
 };
 
 /**
- * A stub for a page of Playwright or Puppeteer, which runs added scripts before the page's own scripts.
+ * A stub for a page of Playwright or Puppeteer. It runs added scripts at once, and the tools before the page's scripts.
  */
 const makePageStub = () => ({
     addInitScript: async (script) => {

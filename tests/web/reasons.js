@@ -1,5 +1,5 @@
-// The authenticators that are compared, and why a call of the key may have a different result than with Chromium's
-// virtual authenticator.
+// The authenticators that are compared, and the reasons for which the key's result of a call may differ from that of
+// Chromium's virtual authenticator.
 const usb = { transport: "usb", hasResidentKey: true };
 
 /** Authenticator options by kind. */
@@ -23,8 +23,8 @@ const WITHOUT_VERIFICATION = ["not verifying", "backed up"];
 const ALL_CALLS = null;
 
 /**
- * Reasons: the calls, the path of the difference, and the exact values of Chromium and of the key as JSON; a missing
- * value means `done`. Kinds are listed if only some kinds of authenticators differ.
+ * The differences: the calls, the path, the exact values of Chromium and of the key as JSON (`done` for a missing
+ * value), the reason, and the kinds of authenticators, unless all kinds differ.
  * @type {[string[] | null, string, string, string, string, string[]?][]}
  */
 const REASONS = [

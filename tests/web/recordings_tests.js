@@ -1,9 +1,8 @@
 // Tests recordings in storage: one log continues from page to page and from tab to tab, and is complete and limited in
 // length. Also tests invalid states.
 import { SecurityKey } from "../../bindings/web/dist/security_key.mjs";
-import { loadFrame, reload } from "./frames.js";
-import { expect, results, waitUntil } from "./harness.js";
-import { readSignCount, makeCreationOptions, makeOptionsForUser, expectError } from "./options.js";
+import { readSignCount, makeCreationOptions, makeOptionsForUser, expectError } from "./ceremonies.js";
+import { expect, results, waitUntil, loadFrame, reload } from "./harness.js";
 
 const getOptions = { publicKey: { challenge: new Uint8Array(32) } };
 const countOccurrences = (text, part) => text.split(part).length - 1;
@@ -44,7 +43,7 @@ const testRecordedDenialsAndFaults = async () => {
     key.faults.status = "KEY_STORE_FULL";
     await expectError(key.create({ publicKey: makeCreationOptions() }), "NotAllowedError");
     const next = new SecurityKey({ storage: sessionStorage });
-    expect(next.log().includes(" denied\n") && next.log().includes("# fault: the answer is status 0x28"), "both");
+    expect(next.log().includes(" denied\n") && next.log().includes("# fault: the response has status 0x28"), "both");
     await next.create({ publicKey: makeCreationOptions() });
     keepRecordings("denied", next.recordings());
     sessionStorage.clear();

@@ -1,4 +1,4 @@
-// Tests the report of a failed test: with node's test runner, and with a context as Vitest's.
+// Tests the report of a failed test: with node's test runner, and with a context like Vitest's.
 import assert from "node:assert/strict";
 import { execFile } from "node:child_process";
 import { mkdtempSync, rmSync, writeFileSync } from "node:fs";
@@ -97,7 +97,7 @@ test("faults that are enabled, and those that took effect", async () => {
     key.faults.clear();
     key.faults.badSignature = true;
     assert.deepEqual(splitReport(key).slice(-2),
-        ["fault: the answer is status 0x7f OTHER (2 times)", "fault badSignature is enabled"]);
+        ["fault: the response has status 0x7f OTHER (2 times)", "fault badSignature is enabled"]);
     key.faults.status = 0x7f;
     assert.equal(splitReport(key).at(-2), "fault status is enabled: 0x7f OTHER");
 });

@@ -1,7 +1,8 @@
 #!/usr/bin/env bash
 # Runs the tests of bindings/web/ in each installed browser: the page that shows sessions, and the key in a page, whose
 # recordings must pass `hidlog check`. HIDLOG_PROGRAM is the path of the program hidlog [default: ./hidlog]. Prints
-# which dependencies are missing. With the argument `chromium` or `firefox`, runs only this browser.
+# which dependencies are missing. With the argument `chromium` or `firefox`, runs only this browser. Exits with 3 if
+# python-fido2 or the browsers are missing.
 set -euo pipefail
 top=$(cd "$(dirname "${BASH_SOURCE[0]}")/../.." && pwd)
 here=$top/tests/web
@@ -10,6 +11,7 @@ with_fido2=$top/tests/with_fido2.sh
 "$with_fido2" -c '' || exit 3
 work=$(mktemp -d)
 trap 'rm -rf "$work"' EXIT
+modules=viewer_tests,views_tests,input_tests,mistakes_tests,transactions_tests,key_tests,long_tests
 failed=0
 ran=0
 
@@ -19,15 +21,14 @@ run_browser_tests() {
     echo "== $("$1" --version 2>/dev/null)"
     ran=1
     mkdir -p "$work/$browser"
-    "$with_fido2" "$here/serve.py" "$work/$browser" viewer.html,views.html,input.html,mistakes.html,transactions.html,key.html,long.html "$@" || failed=1
+    "$with_fido2" "$here/serve.py" "$work/$browser" "$modules" "$@" || failed=1
     if [ "$browser" = chromium ]; then
         "$with_fido2" "$here/from_file.py" || [ $? = 3 ] || failed=1
         "$with_fido2" "$here/diagnoses.py" || [ $? = 3 ] || failed=1
         "$with_fido2" "$here/layout.py" || [ $? = 3 ] || failed=1
         "$with_fido2" "$here/states.py" || [ $? = 3 ] || failed=1
         "$with_fido2" "$here/virtual_authenticator.py" || [ $? = 3 ] || failed=1
-        "$with_fido2" "$here/two_tabs.py" || [ $? = 3 ] || failed=1
-        "$with_fido2" "$here/history.py" || [ $? = 3 ] || failed=1
+        "$with_fido2" "$here/storage.py" || [ $? = 3 ] || failed=1
         "$here/walks_fuzzed.py" --program "$program" || [ $? = 3 ] || failed=1
         run_examples_and_node_tests
     fi
@@ -42,7 +43,7 @@ run_examples_and_node_tests() {
             "$example" || failed=1
         done
     else
-        echo "tests/web: selenium is missing (apt-get install python3-selenium chromium-driver)" >&2
+        echo "tests/web: selenium or chromedriver is missing; the examples are not run (apt-get install python3-selenium chromium-driver)" >&2
     fi
     if command -v node >/dev/null; then
         if node --test "$top/examples/web/" "$here" >"$work/output"; then
@@ -74,8 +75,12 @@ check_logs() {
 
 "$top/bindings/web/build.sh" --check || [ $? = 3 ] || failed=1
 if command -v tsc >/dev/null; then
-    for project in "$top"/bindings/web/tsconfig{,.viewer}.json "$here"/tsconfig{,.node}.json; do
+    for project in "$top"/bindings/web/tsconfig{,.viewer}.json; do
         tsc -p "$project" && echo "ok  types of ${project#"$top"/}" || failed=1
+    done
+    for checked in types.mts=es2022,dom types_in_node.mts=es2022; do
+        tsc --strict --noEmit --target es2022 --lib "${checked#*=}" --module node16 --moduleResolution node16 \
+            --typeRoots "$work/none" "$here/${checked%=*}" && echo "ok  types of ${checked%=*}" || failed=1
     done
 else
     echo "tests/web: tsc is missing; the types are not checked (apt-get install node-typescript)" >&2

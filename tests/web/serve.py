@@ -1,8 +1,10 @@
 #!/usr/bin/env python3
-"""Runs test pages in a browser, one after the other: serve.py FOLDER PAGE[,PAGE..] BROWSER [ARGUMENT..]
+"""Runs test modules in a browser, one after the other: serve.py FOLDER MODULE[,MODULE..] BROWSER [ARGUMENT..]
+
+A MODULE is a file of this folder without .js, which page.html loads, and may be followed by &NAME=VALUE.
 
 Serves the repository's files on 127.0.0.1 only, with the relying party under /rp/, starts the browser with the first
-page's URL as its last argument, and waits for the results that each page posts to /done. The logs that the pages
+module's URL as its last argument, and waits for the results that each module posts to /done. The logs that the modules
 recorded are written to FOLDER. The exit status is 0 if all tests passed.
 """
 
@@ -116,7 +118,7 @@ class PageHandler(SimpleHTTPRequestHandler):
             return {}
         if path == "/begun":
             self.server.test = (
-                request["page"],
+                request["module"],
                 request["test"],
                 time.monotonic(),
                 read_processor_seconds(self.server.browser),
@@ -153,8 +155,8 @@ def wait_for_results(server, started):
     """Waits for the results. Returns why there are none, or an empty string."""
     while not server.is_done.wait(1):
         server.memory = max(server.memory, read_session_peak_memory(started.pid))
-        page, test, began, used = server.test
-        where = f"in {page}, test {test!r}, at a peak of {server.memory} MB in one process"
+        module, test, began, used = server.test
+        where = f"in {module}, test {test!r}, at a peak of {server.memory} MB in one process"
         now = time.monotonic()
         if started.poll() is not None:
             return f"the browser ended with status {started.returncode} {where}"
@@ -204,11 +206,11 @@ def main():
     server = ThreadingHTTPServer(("127.0.0.1", 0), PageHandler)
     origin = f"http://localhost:{server.server_address[1]}"
     server.relying_party, server.results, server.is_done = RelyingParty(origin), [], threading.Event()
-    server.pages = [f"{origin}/tests/web/{page}" for page in rest]
+    server.pages = [f"{origin}/tests/web/page.html?module={module}" for module in rest]
     server.last_heard, server.memory = time.monotonic(), 0
     server.test = (first, "the first", time.monotonic(), 0.0)
     threading.Thread(target=server.serve_forever, daemon=True).start()
-    why = run_browser(arguments, f"{origin}/tests/web/{first}", server)
+    why = run_browser(arguments, f"{origin}/tests/web/page.html?module={first}", server)
     passed = [print_results(result, folder) for result in server.results]
     print(f"    the browser's largest process had {server.memory} MB at its peak")
     if why:

@@ -1,8 +1,9 @@
 // Tests the saved state of a key: as a value, in storage, and in storage that two tabs share.
 import { SecurityKey } from "../../bindings/web/dist/security_key.mjs";
-import { loadFrame, reload } from "./frames.js";
-import { expect, results } from "./harness.js";
-import { readSignCount, createCredential, makeCreationOptions, getAssertion, makeOptionsForUser, expectError, makeKeyTest } from "./options.js";
+import {
+    readSignCount, createCredential, makeCreationOptions, getAssertion, makeOptionsForUser, expectError, makeKeyTest,
+} from "./ceremonies.js";
+import { expect, results, loadFrame, reload } from "./harness.js";
 
 const getOptions = { publicKey: { challenge: new Uint8Array(32) } };
 
@@ -159,8 +160,8 @@ const SIGN_INS = 1000;
 const SIGN_INS_PER_BLOCK = 50;
 const MAX_STORED_CHARACTERS = 1_300_000;
 
-/** Signs in, and returns the characters written for each sign-in. */
-const signInOften = async (key, storage, options) => {
+/** Signs in SIGN_INS times, and returns the number of characters that each sign-in writes. */
+const signInRepeatedly = async (key, storage, options) => {
     const counted = countWrittenCharacters(storage);
     const written = [];
     try {
@@ -175,7 +176,7 @@ const signInOften = async (key, storage, options) => {
     return written;
 };
 
-/** The thousandth sign-in writes as many characters to the storage as the first one, and the whole log is stored. */
+/** The last sign-ins write at most 5% more characters to the storage than the first, and the next key continues. */
 const testConstantCost = (name, makeStorage) => async () => {
     const storage = makeStorage();
     // The timestamps of all inputs have the same number of digits.
@@ -185,7 +186,7 @@ const testConstantCost = (name, makeStorage) => async () => {
     const made = await key.create({ publicKey: makeCreationOptions(makeOptionsForUser("ann")) });
     const allowCredentials = [{ type: "public-key", id: made.rawId }];
     const options = { publicKey: { ...getOptions.publicKey, allowCredentials } };
-    const written = await signInOften(key, storage, options);
+    const written = await signInRepeatedly(key, storage, options);
     const sum = (list) => list.reduce((total, count) => total + count, 0);
     const [first, last] = [sum(written.slice(0, SIGN_INS_PER_BLOCK)), sum(written.slice(-SIGN_INS_PER_BLOCK))];
     results.figures.push(`a sign-in writes ${(first / SIGN_INS_PER_BLOCK).toFixed(0)} characters to ${name} among the first`

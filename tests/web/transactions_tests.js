@@ -2,9 +2,11 @@
 // tracked.
 import { expect, run, waitUntil } from "./harness.js";
 import {
-    getElement, chooseValue, dropFile, encodeText, fetchExample, readNotice, openLog, getPage, listRows, readCard, search,
-    listTexts, waitForCard,
+    chooseValue, dropFile, encodeText, fetchExample, frame, getElement, getPage, listRows, listTexts, openLog, readCard,
+    readNotice, search, waitForCard,
 } from "./viewing.js";
+
+frame.height = 700;
 
 /** A session repeated to 5 MB. */
 const makeLongLog = async () => {

@@ -8,7 +8,7 @@ import {
 
 const LOG_NAMES = ["first", "get_info", "registration", "selection", "sign_in", "sign_in_again", "time_out", "two_hosts"];
 
-/** There are at most as many rows as lines, and the rows of packets show the command. */
+/** The page shows the number of lines, and the rows of INIT packets show the command. */
 const makeShowTest = (name) => async () => {
     const bytes = await fetchExample(`${name}.log`);
     await openLog(`${name}.log`, bytes);
@@ -265,7 +265,7 @@ const testInvalidLines = async () => {
 
 const JUMP_COUNT = 40;
 
-/** Records the texts that the page draws. Each drawing begins with setting the scale. */
+/** Returns the set of the texts in the latest drawing. Each drawing begins with setting the scale. */
 const recordDrawnTexts = () => {
     const { prototype } = getPage().CanvasRenderingContext2D;
     const { fillText, scale } = prototype;
@@ -330,7 +330,7 @@ const testScrolling = async () => {
     }
 };
 
-/** Opens a log with 30 MB of packets on a channel that was never allocated. */
+/** A log with 30 MB of packets on a channel that was never allocated is opened, made quiet and searched. */
 const testLongLog = async () => {
     const line = `> 0 000000ff910000${"0".repeat(114)}\n`;
     const bytes = encodeText(line.repeat(Math.floor((30 * 1024 * 1024) / line.length)));
@@ -349,7 +349,7 @@ const testLongLog = async () => {
 const selectPacketLines = (text) =>
     text.split("\n").filter((line) => /^[<>]/.test(line)).map((line) => line.replace(/ \d+ /, " ")).join("\n");
 
-/** Captures in four formats have the same packets as the key's log of the same session. */
+/** Each of four captures has the same packets as the key's log of the same session. */
 const testCaptures = async () => {
     const names = [
         ["libfido2_register.pcap", "libfido2_register"], ["keyboard_beside.48.pcap", "keyboard_beside"],

@@ -1,7 +1,8 @@
 // Drives bindings/web/index.html in a frame: drops files, presses keys, clicks, and reads what is shown.
 import { waitUntil } from "./harness.js";
 
-export const frame = document.querySelector("iframe");
+export const frame = Object.assign(document.createElement("iframe"), { width: 1200, height: 1000 });
+document.body.append(frame);
 export const getPage = () => frame.contentWindow;
 export const getElement = (id) => getPage().document.getElementById(id);
 export const readNotice = () => getElement("notice").textContent;

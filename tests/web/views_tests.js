@@ -144,7 +144,7 @@ const testMenu = async () => {
     expect(!isOpen(), "a click elsewhere closes it");
 };
 
-/** Records the texts that are drawn. */
+/** Returns an array to which each drawn text is added. */
 const recordDrawnTexts = () => {
     const { prototype } = getPage().CanvasRenderingContext2D;
     const { fillText } = prototype;
@@ -232,7 +232,7 @@ const testTwoLogs = async () => {
     expect(listPairs().length > 0, "and again");
 };
 
-/** Lines that only one log has are shown without a partner. Keys select the next or previous difference. */
+/** Lines that only one log has are shown without a partner. The key n selects the next difference, cyclically. */
 const testAlignedLogs = async () => {
     const text = new TextDecoder().decode(await fetchExample("registration.log"));
     const shorter = text.split("\n").filter((_, at) => at !== 7).join("\n").replace("granted", "denied");

@@ -1,7 +1,7 @@
 #!/usr/bin/env python3
 """Compares the key with Chromium's own virtual authenticator: the results and the times of the same calls in a page.
 
-    virtual_authenticator.py            prints what compare.html found, for each kind of authenticator in reasons.js
+    virtual_authenticator.py            prints what compare.js found, for each kind of authenticator in reasons.js
     virtual_authenticator.py --kind K   for one kind
     virtual_authenticator.py --write    also writes chromium_outcomes.json: how each call ended, for other browsers
 """
@@ -32,10 +32,10 @@ class ComparingHandler(PageHandler):
 
 def run_page(driver, server, kind):
     """Opens the page for a kind of authenticator, or for all, and returns the results that it posts."""
-    query = f"?kind={urllib.parse.quote(kind)}" if kind else ""
+    query = f"&kind={urllib.parse.quote(kind)}" if kind else ""
     server.driver = driver
     driver.send_devtools_command("WebAuthn.enable")
-    driver.open(f"http://localhost:{server.server_address[1]}/tests/web/compare.html{query}")
+    driver.open(f"http://localhost:{server.server_address[1]}/tests/web/page.html?module=compare{query}")
     return server.results[0] if server.is_done.wait(TIMEOUT_SECONDS) else None
 
 

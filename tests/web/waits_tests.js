@@ -1,8 +1,11 @@
 // Tests waiting for the user: what ends the wait, which request is served next, and the cost of a wait and of a
 // sign-in.
 import { install, SecurityKey } from "../../bindings/web/dist/security_key.mjs";
+import {
+    readSignCount, createCredential, makeCreationOptions, getAssertion, getAssertionWith, makeOptionsForUser,
+    expectError, makeKeyTest,
+} from "./ceremonies.js";
 import { expect, results, waitUntil, sleep } from "./harness.js";
-import { readSignCount, createCredential, makeCreationOptions, getAssertion, getAssertionWith, makeOptionsForUser, expectError, makeKeyTest } from "./options.js";
 
 const testThrowingPresence = async (key) => {
     const mistake = new RangeError("an error in the test");
@@ -177,7 +180,7 @@ const MAX_ATTEMPTS = 3;
 /** Returns the lower quartile of times, which other processes on the machine hardly affect. */
 const computeLowerQuartile = (times) => times.sort((one, other) => one - other)[times.length / 4];
 
-/** Registers with a new key, and returns a function that signs in. */
+/** Registers a credential on a new key, and returns a function that signs in with it. */
 const prepareSignIn = async (key) => {
     const made = await key.create({ publicKey: makeCreationOptions() });
     const publicKey = { challenge: new Uint8Array(32), allowCredentials: [{ type: "public-key", id: made.rawId }] };

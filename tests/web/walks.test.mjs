@@ -1,10 +1,10 @@
 // Compares the core's transactions of a log, as read by the page (bindings/web/transactions.js), with those of an
-// independent implementation in Python: walks/expected.txt has its results for the logs beside it and the examples,
-// line by line and message by message.
+// independent implementation in Python: walks_expected.txt has its results for walks_logs.txt and the examples, line by
+// line and message by message.
 import assert from "node:assert/strict";
 import { readFileSync } from "node:fs";
 import { test } from "node:test";
-import { core, resolvePath, readSession } from "./session_in_node.mjs";
+import { core, resolvePath, readSections, readSession } from "./session_in_node.mjs";
 
 const COMMAND_NAMES = {
     0x01: "PING", 0x03: "MSG", 0x04: "LOCK", 0x06: "INIT", 0x08: "WINK", 0x10: "CBOR", 0x11: "CANCEL", 0x3b: "KEEPALIVE",
@@ -25,9 +25,12 @@ const describeEnd = ({ answer, by, received, code, end, isWhole, length }) => {
     return by ? `${end} by line ${by.number}` : isWhole ? end : `${end}: ${received} of ${length} bytes received`;
 };
 
-/** The transactions of a log, as text. */
+const logs = readSections("walks_logs.txt");
+
+/** The transactions of a log of walks_logs.txt, or of a file, as text. */
 const describeTransactions = (name) => {
-    const session = readSession(new Uint8Array(readFileSync(resolvePath(name))));
+    const log = logs.has(name) ? new TextEncoder().encode(logs.get(name)) : readFileSync(resolvePath(name));
+    const session = readSession(new Uint8Array(log));
     const isInputOrPacket = (line) => !["comment", "need", "count", "empty"].includes(line.kind);
     const transactions = Array.from({ length: session.transactions }, (_, place) => session.transaction(place));
     return [
@@ -40,19 +43,11 @@ const describeTransactions = (name) => {
     ];
 };
 
-const expected = new Map();
-for (const line of readFileSync(new URL("walks/expected.txt", import.meta.url), "utf8").trimEnd().split("\n")) {
-    if (line.startsWith("== ")) {
-        expected.set(line.slice(3), []);
-    } else {
-        [...expected.values()].at(-1).push(line);
-    }
-}
-
 test("each line belongs to the transaction found by the other implementation, which ends the same way", () => {
-    assert.ok(expected.size >= 30, `${expected.size} logs`);
-    for (const [name, lines] of expected) {
-        assert.deepEqual(describeTransactions(name), lines, name);
+    const expected = readSections("walks_expected.txt");
+    assert.ok(expected.size >= 30 && [...logs.keys()].every((name) => expected.has(name)), `${expected.size} logs`);
+    for (const [name, text] of expected) {
+        assert.deepEqual(describeTransactions(name), text.trimEnd().split("\n"), name);
     }
 });
 

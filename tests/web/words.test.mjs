@@ -8,19 +8,23 @@ import { createRequire } from "node:module";
 import { test } from "node:test";
 import { fileURLToPath } from "node:url";
 import vm from "node:vm";
-import { core, resolvePath, readSession } from "./session_in_node.mjs";
+import { core, resolvePath, readSections, readSession } from "./session_in_node.mjs";
 
 for (const name of ["show_text.js", "narrative.js"]) {
     vm.runInThisContext(readFileSync(resolvePath(`bindings/web/${name}`), "utf8"));
 }
 const PROGRAM = process.env.HIDLOG_PROGRAM ?? fileURLToPath(resolvePath("hidlog"));
 const JSDOM = "/usr/share/nodejs/jsdom";
-const LOG_FOLDERS = [
-    "examples/", "examples/failing/", "crates/hidlog_cli/data/capacity_64/", "tests/captures/data/", "tests/web/walks/",
-    "tests/web/words/",
-];
-const names = LOG_FOLDERS.flatMap((folder) => readdirSync(resolvePath(folder)).filter((name) => name.endsWith(".log"))
-    .map((name) => folder + name));
+const LOG_FOLDERS = ["examples/", "examples/failing/", "crates/hidlog_cli/data/capacity_64/", "tests/captures/data/"];
+// Logs by name: those of the folders by path, and those written for tests.
+const logs = new Map([
+    ...LOG_FOLDERS.flatMap((folder) => readdirSync(resolvePath(folder)).filter((name) => name.endsWith(".log"))
+        .map((name) => [folder + name, new Uint8Array(readFileSync(resolvePath(folder + name)))])),
+    ...[...readSections("walks_logs.txt"), ...readSections("words_logs.txt")]
+        .map(([name, text]) => [name, new TextEncoder().encode(text)]),
+]);
+const names = [...logs.keys()];
+const readText = (name) => new TextDecoder().decode(logs.get(name));
 
 const runShow = (bytes) =>
     spawnSync(PROGRAM, ["show", "--explain"], { input: bytes, encoding: "utf8", maxBuffer: 2 ** 28 });
@@ -50,13 +54,11 @@ const readExplanations = (bytes) => {
     return (number) => words.get(number) ?? { head: "", below: [] };
 };
 
-const readBytes = (name) => new Uint8Array(readFileSync(resolvePath(name)));
-
 test("each line has the explanation from the whole log", () => {
     assert.ok(names.length >= 80, `${names.length} logs`);
     for (const name of names) {
-        const expected = readExplanations(readBytes(name));
-        const session = readSession(readBytes(name));
+        const expected = readExplanations(logs.get(name));
+        const session = readSession(logs.get(name));
         const shown = new globalThis.hidlogShown.LineTexts(core);
         const lines = session.slice(0, session.length);
         for (const line of [...lines, ...lines.toReversed()]) {
@@ -70,7 +72,7 @@ test("each line has the explanation from the whole log", () => {
  * after later lines.
  */
 const makeSlowLog = (count) => {
-    const slow = readFileSync(resolvePath("tests/web/words/slow_packets.log"), "utf8").trimEnd().split("\n");
+    const slow = readText("slow_packets").trimEnd().split("\n");
     const delayLine = (line, by) => line.replace(/^(. )(\d+) /, (_, kind, at) => `${kind}${Number(at) + by} `);
     const sessions = Array.from({ length: count }, (_, at) =>
         slow.map((line) => `${delayLine(line, 1000 * at)}\n# between\n`));
@@ -109,7 +111,7 @@ test("the first lines of a long log are explained as in the whole log, and the o
     assert.equal(job.ended, 1);
 });
 
-test("lines that cannot be explained say so, and others are explained", async () => {
+test("lines that cannot be explained have a text that says so", async () => {
     const bytes = new TextEncoder().encode(makeSlowLog(400));
     const changes = [];
     const failingWork = () => ({ outcome: Promise.reject(new Error("no memory")), end: () => {} });
@@ -136,7 +138,7 @@ test("lines that cannot be explained say so, and others are explained", async ()
 });
 
 test("an RP ID with a quote and a backslash is complete", () => {
-    const session = readSession(readBytes("tests/web/words/quote_in_rp.log"));
+    const session = readSession(logs.get("quote_in_rp"));
     const shown = new globalThis.hidlogShown.LineTexts(core);
     const ids = Array.from({ length: session.transactions }, (_, index) =>
         shown.requestRpId(session.transaction(index)));
@@ -162,13 +164,13 @@ test("a denial is described by the user's last reply in the log", () => {
     assert.match(summarizeEdited(/^(p \d+) denied$/m, "$1 timeout"), /^1 registration: the user did not respond\. /);
     assert.match(summarizeEdited(/^p \d+ denied\n/m, ""), /^1 registration: the user denied or did not respond\. /);
     assert.match(summarizeEdited(/^(p \d+) denied$/m, "$1 granted"), /^1 registration: denied, although the user agreed\. /);
-    const timedOut = readSummary(readBytes("examples/service_presence_timed_out.log"));
+    const timedOut = readSummary(logs.get("examples/service_presence_timed_out.log"));
     assert.match(timedOut, /^1 registration: the user did not respond\. /);
 });
 
 test("ends are described correctly for every cause", () => {
-    assert.match(readSummary(readBytes("tests/web/words/sequence_twice.log")), /^1 registration: wrong sequence number\. /);
-    const session = readSession(readBytes("tests/web/words/six_inits.log"));
+    assert.match(readSummary(logs.get("sequence_twice")), /^1 registration: wrong sequence number\. /);
+    const session = readSession(logs.get("six_inits"));
     const ends = Array.from({ length: session.transactions }, (_, place) =>
         globalThis.hidlogStory.describeEnd(session.transaction(place)));
     assert.ok(ends.includes("no longer tracked: too many open transactions"), ends.join("; "));
@@ -280,15 +282,15 @@ class PageDriver {
     }
 }
 
-test("each row that is chosen has them, before a search and after it", noJsdom, async () => {
+test("each selected row has its explanation, before a search and after it", noJsdom, async () => {
     const window = await openPage();
     try {
         const hands = new PageDriver(window);
         let looked = 0;
         for (const name of names) {
             // The page shows a log up to its invalid line.
-            const expected = readExplanations(selectValidLines(readBytes(name)));
-            await hands.paste(readFileSync(resolvePath(name), "latin1"));
+            const expected = readExplanations(selectValidLines(logs.get(name)));
+            await hands.paste(Buffer.from(logs.get(name)).toString("latin1"));
             assert.equal(hands.at("view").disabled, false, name);
             window.hidlogViewer.setView("recorded");
             hands.fold(true);
@@ -308,16 +310,16 @@ test("each row that is chosen has them, before a search and after it", noJsdom, 
     }
 });
 
-test("an excluded credential that is sought and chosen has its registration's line", noJsdom, async () => {
+test("the detail of an excluded credential that was searched for names its registration's line", noJsdom, async () => {
     const window = await openPage();
     try {
         const hands = new PageDriver(window);
-        await hands.paste(readFileSync(resolvePath("tests/web/words/already_registered.log"), "utf8"));
+        await hands.paste(readText("already_registered"));
         await hands.seek("already");
         window.hidlogViewer.selectRow(0);
         const detail = hands.at("detail-text").textContent;
         assert.ok(detail.includes("excludeList[0] is the credential of line 173"), detail);
-        await hands.paste(readFileSync(resolvePath("tests/web/words/slow_packets.log"), "utf8"));
+        await hands.paste(readText("slow_packets"));
         await hands.seek("");
         hands.fold(true);
         window.hidlogViewer.selectRow(1);
