@@ -16,7 +16,7 @@ from hidlog import core
 
 pytest_plugins = ["pytester"]
 FIDO2_TESTS = ["test_fido2.py"]
-FIDO2_0_9_TESTS = ["test_key.py", "test_state.py", "test_json.py", "test_chromium_json.py"]
+FIDO2_0_9_TESTS = ["test_key.py", "test_state.py", "test_json.py"]
 collect_ignore: list[str] = []
 try:
     from fido2 import __version__ as fido2_version

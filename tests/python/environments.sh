@@ -10,7 +10,8 @@
 #
 # Missing packages are downloaded from Debian to CACHE and unpacked there, but not installed. With HIDLOG_OFFLINE=1
 # nothing is downloaded. Parts with missing dependencies are skipped, and their names are printed. The last line is `N
-# passed, N failed, N skipped`. HIDLOG_PYTHONS lists the interpreters [default: those in PATH and of pyenv].
+# passed, N failed, N skipped`. HIDLOG_PYTHONS is a list of interpreters, separated by colons [default: those in
+# /usr/bin and of pyenv].
 set -uo pipefail
 here=$(cd "$(dirname "${BASH_SOURCE[0]}")" && pwd)
 top=$(cd "$here/../.." && pwd)
@@ -135,7 +136,7 @@ test_fido2() {
             path=$cache/fido2-$suite/usr/lib/python3/dist-packages
             test_with_fido2_version "python-fido2 $(sed -n 's/^Version: //p' "$path"/fido2-*/METADATA)" "$path"
         else
-            report_skipped "python-fido2 of $suite: Debian isn't reached, or HIDLOG_OFFLINE is set"
+            report_skipped "python-fido2 of $suite: Debian's mirror is unreachable, or HIDLOG_OFFLINE is set"
         fi
     done
 }
@@ -185,7 +186,7 @@ test_pythons() {
             "import hidlog, sys; print(hidlog.check(open(sys.argv[1], 'rb').read()).raise_for_fault().text.decode())" \
             "$top/examples/sign_in.log"
         if [ -n "${tried-}" ] && [ "$("$system" -c 'import platform; print(platform.python_version())')" = "$(basename "$venv")" ]; then
-            continue # the suite ran with it above
+            continue # test_fido2 has run these tests with this interpreter
         fi
         link_packages "$venv/packages"
         if provide_cffi "$venv/bin/python" "$venv/packages" >"$work/output" 2>&1; then
@@ -206,8 +207,34 @@ test_musl() {
     (cd "$work/musl" && unzip -q -o "$work"/dist/*x86_64.whl 'hidlog/*')
     run_case "musl links a client with the wheel's library" musl-gcc -O1 -I "$top/release" -o "$work/musl/client" \
         "$top/tests/c/key.c" "$work/musl/hidlog/libhidlog.so.1" "-Wl,-rpath,$work/musl/hidlog"
-    run_case "musl's loader takes it, and it signs in: $(readelf -p .interp "$work/musl/client" | grep -o '/lib.*')" \
-        bash -c '"$1" <"$2" | cmp - "$2" && echo "a session as it was recorded"' _ "$work/musl/client" "$top/examples/sign_in.log"
+    run_case "the client runs with musl's loader: $(readelf -p .interp "$work/musl/client" | grep -o '/lib.*')" \
+        bash -c '"$1" <"$2" | cmp - "$2" && echo "the replay equals the recording"' _ "$work/musl/client" "$top/examples/sign_in.log"
+}
+
+# Prints a Python script that registers and signs in with the package alone. The recording must match the packets that the
+# key sends.
+print_sign_in() {
+    cat <<'PYTHON'
+import platform
+
+import hidlog
+
+OPTIONS = {
+    "challenge": "AAECAwQFBgcICQoLDA0ODw",
+    "rp": {"name": "Example"},
+    "user": {"id": "AQ", "name": "ann", "displayName": "Ann"},
+    "pubKeyCredParams": [{"type": "public-key", "alg": -7}],
+    "authenticatorSelection": {"residentKey": "required", "userVerification": "required"},
+}
+
+with hidlog.SecurityKey(verification="verified") as key:
+    browser = key.browser("http://localhost:5000")
+    made = browser.create(OPTIONS)
+    found = browser.get({"challenge": OPTIONS["challenge"], "userVerification": "required"})
+    assert found["id"] == made["id"]
+summary = hidlog.check(key.log).raise_for_fault().text.decode().strip()
+print(platform.machine(), platform.python_version(), summary)
+PYTHON
 }
 
 test_aarch64() {
@@ -218,12 +245,13 @@ test_aarch64() {
     elif ! unpack_packages aarch64 bookworm arm64 libc6 libgcc-s1 libpython3.11-minimal libpython3.11-stdlib python3.11-minimal \
         python3.11 libssl3 zlib1g libexpat1 libffi8 liblzma5 libbz2-1.0 libuuid1 libsqlite3-0 libcrypt1 \
         python3-cryptography python3-cffi-backend; then
-        report_skipped "aarch64: Debian isn't reached, or HIDLOG_OFFLINE is set"
+        report_skipped "aarch64: Debian's mirror is unreachable, or HIDLOG_OFFLINE is set"
     else
         local python=(qemu-aarch64-static -L "$root" "$root/usr/bin/python3.11") to=$work/aarch64
         run_case "aarch64 installs its wheel" env "PYTHONPATH=$wheels" "${python[@]}" -m pip install --quiet --no-index \
             --no-deps --root-user-action=ignore --target "$to" "$work"/dist/*aarch64.whl
-        run_case "aarch64 signs in" env "PYTHONPATH=$to:$root$debian" "${python[@]}" "$work/tests/sign_in.py"
+        print_sign_in >"$work/sign_in.py"
+        run_case "aarch64 signs in" env "PYTHONPATH=$to:$root$debian" "${python[@]}" "$work/sign_in.py"
         run_case "aarch64 has the program: $(qemu-aarch64-static "$to/hidlog/hidlog" --version)" \
             qemu-aarch64-static "$to/hidlog/hidlog" check "$top/examples/sign_in.log"
     fi

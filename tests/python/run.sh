@@ -13,7 +13,7 @@ if [ "${1-}" = --library ]; then
 fi
 python=/usr/bin/python3
 if ! "$python" -c 'import cryptography, fido2.server, hatchling, pytest, venv' 2>/dev/null; then
-    echo "tests/python/run.sh: python-fido2, hatchling, pytest or venv is missing (tests/run --install); nothing was run" >&2
+    echo "tests/python/run.sh: python-fido2, cryptography, hatchling, pytest or venv is missing (tests/run --install); nothing was run" >&2
     exit 3
 fi
 work=$(mktemp -d)

@@ -22,7 +22,7 @@ import hidlog
 from hidlog import entry_point, files
 from hidlog.captures import CaptureError, read, to_pcapng
 
-from test_library_cli import WITHOUT_PROGRAM
+from test_logs import WITHOUT_PROGRAM
 
 HIDLOG = [sys.executable, "-m", "hidlog"]
 Example = Callable[[str], bytes]
@@ -298,7 +298,7 @@ def test_a_key_that_is_never_closed_leaves_nothing() -> None:
 @pytest.mark.parametrize(
     "error, said",
     [
-        (MemoryError(), "no memory"),
+        (MemoryError(), "out of memory"),
         (RecursionError("maximum recursion depth exceeded"), "the input is nested too deeply"),
         (OSError(5, "Input/output error", "a.log"), "a.log: Input/output error"),
         (BrokenPipeError(32, "Broken pipe"), "Broken pipe"),

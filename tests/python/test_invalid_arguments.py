@@ -45,7 +45,8 @@ UNUSUAL_VALUES: dict[str, Any] = {
 }
 Key = hidlog.SecurityKey
 Call = Callable[[Key, Any], Any]
-# For each call: a function that passes a value as a named argument, attribute or member.
+# For each call or object: the names of its arguments, attributes or members, and a function that passes a value under
+# one of these names.
 NAMED_CALLS: dict[str, tuple[str, Callable[[Key, Any, str], Any]]] = {
     "browser.create": (
         "challenge rp user pubKeyCredParams authenticatorSelection timeout excludeCredentials extensions attestation hints",

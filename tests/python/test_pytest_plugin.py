@@ -111,7 +111,7 @@ def test_the_report_says_what_the_key_made_and_who_refused(pytester: pytest.Pyte
             "    options: *",
             "    fault: the RP ID hash is that of 'other.example'",
             "    fault: the signature counter is 1, not 2",
-            "fault: the answer is status 0x27",
+            "fault: the response has status 0x27",
             f"the key refused to sign an assertion at http://{site}: NotAllowedError: *: the user refused",
             "    options: rpId absent, userVerification preferred, challenge *",
             f"the browser refused to create a credential for alice at http://{site}: SecurityError: *",
@@ -124,7 +124,7 @@ def test_the_report_says_what_the_key_made_and_who_refused(pytester: pytest.Pyte
         ],
         consecutive=False,
     )
-    assert ": 0\n" not in result.stdout.str(), "a total that is 0"
+    assert ": 0\n" not in result.stdout.str(), "the report has a total of 0"
 
 
 REMOVED_CREDENTIALS_SUITE = """
@@ -182,7 +182,7 @@ def test_the_report_has_the_options(pytester: pytest.Pytester) -> None:
     )
     refused = "the browser refused to create a credential for a at *"
     result.stdout.fnmatch_lines(["test_suite.py:*Error", refused, options])
-    assert "webauthn_client.py" not in result.stdout.str(), "a frame of the package"
+    assert "webauthn_client.py" not in result.stdout.str(), "the traceback has a frame of the package"
 
 
 PHASES_SUITE = """

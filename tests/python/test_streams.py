@@ -20,7 +20,7 @@ import pytest
 
 from hidlog.subprocess_key import find_program
 
-from test_library_cli import WITHOUT_PROGRAM
+from test_logs import WITHOUT_PROGRAM
 
 WITH_PROGRAM = [sys.executable, "-m", "hidlog"]
 WITHOUT_PROGRAM_COMMAND = [sys.executable, "-c", WITHOUT_PROGRAM]
