@@ -1,6 +1,7 @@
 #!/usr/bin/env bash
-# Tries the README's first two commands on Debian's base system alone, in a folder made by debootstrap, as a user who is
-# not root: tests/base_system.sh FOLDER. A folder that is there is used again. Needs root, debootstrap and its mirror.
+# Runs the README's first two commands in Debian's base system, as an unprivileged user: tests/base_system.sh FOLDER
+#
+# FOLDER is created by debootstrap or reused. Needs root, debootstrap and a Debian mirror.
 set -euo pipefail
 top=$(cd "$(dirname "${BASH_SOURCE[0]}")/.." && pwd)
 work=${1:?usage: tests/base_system.sh FOLDER}
@@ -12,5 +13,5 @@ chown -R 1234:1234 "$work/home/tester"
 chroot --userspec=1234:1234 "$work" /usr/bin/env -i PATH=/usr/bin:/bin HOME=/home/tester bash -c '
     cd ~/clone
     time ./hidlog replay <examples/registration.log >~/replayed
-    cmp ~/replayed examples/registration.log && echo "replayed as it was recorded"
+    cmp ~/replayed examples/registration.log && echo "the replay equals the recording"
     time tests/run --quick'

@@ -1,14 +1,15 @@
 #!/usr/bin/env python3
 """Runs the commands in README and docs/, and compares their output with the page.
 
-    tests/docs.py [PAGE ..]        default: README.md, the pages of docs/ and the README of each folder
+    tests/docs.py [PAGE ..]           default: README.md, the pages of docs/ and the README of each folder
+    tests/docs.py --write PAGE ..     updates the output of each command `$ ..` to what the command prints now
 
 The commands of a page run one after another in a copy of the repository. There are three kinds:
 
 - A line of a code block that begins with `$ `; the lines after it, up to the next command or the end of the block, are
-  its output.
+  its output. --write doesn't update the text between the blocks, so read it again.
 - A block that begins with ```sh is run as it is, and must exit with 0. A block ```text right after it is its output. It
-  may install packages: tests/installer replaces sudo and apt-get.
+  may install packages: tests/installer replaces apt-get, and sudo is a function that runs the command.
 - A comment `<!-- run: COMMAND -->` is run.
 
 Output may be abbreviated: a line that ends in ` ..` matches any line with that beginning, and a line `..` any number of
@@ -35,6 +36,7 @@ from pathlib import Path
 
 TOP = Path(__file__).resolve().parent.parent
 TIMEOUT_SECONDS = 1200
+INDENT = "    "
 # Pages with paths of older versions, and generated pages.
 UNCHECKED_PAGES = ("CHANGELOG.md", "MAP.md")
 STATUS_MISSING = 3
@@ -170,6 +172,8 @@ def make_environment(installed: Path) -> dict[str, str]:
     return {
         **os.environ,
         "INSTALLED": str(installed),
+        # bash makes a function of this variable.
+        "BASH_FUNC_sudo%%": '() { "$@"; }',
         "PATH": ":".join(programs),
         "PYTHONPATH": str(usr / "lib" / "python3" / "dist-packages"),
         "PYTHONDONTWRITEBYTECODE": "1",
@@ -270,7 +274,36 @@ def check_page(page: Path) -> Result:
     return result
 
 
+def update_outputs(text: str, folder: Path) -> str:
+    """Returns a page with the outputs of its commands, run in a directory."""
+    lines: list[str] = []
+    is_output = False
+    for line in text.splitlines():
+        is_command = line.startswith(f"{INDENT}$ ")
+        is_output = is_output and not is_command and (line.startswith(INDENT) or not line)
+        if not is_output:
+            # The empty line after a block was removed together with the block's output.
+            lines += [""] if lines and lines[-1].startswith(INDENT) and not line.startswith(INDENT) and line else []
+            lines.append(line)
+        if is_command:
+            _, printed = run_command(line.removeprefix(f"{INDENT}$ "), folder)
+            lines += [f"{INDENT}{item.rstrip()}".rstrip() for item in printed.splitlines()]
+            is_output = True
+    return "\n".join(lines) + "\n"
+
+
+def write_pages(pages: list[Path]) -> int:
+    """Updates the outputs of pages."""
+    for page in pages:
+        with tempfile.TemporaryDirectory() as folder:
+            copy_repository(Path(folder))
+            page.write_text(update_outputs(page.read_text(encoding="utf-8"), Path(folder)), encoding="utf-8")
+    return 0
+
+
 def main() -> int:
+    if sys.argv[1:2] == ["--write"]:
+        return write_pages([Path(word).resolve() for word in sys.argv[2:]])
     arguments = [Path(word).resolve() for word in sys.argv[1:]]
     pages = arguments or sorted(
         path for pattern in ("*.md", "docs/**/*.md", "*/README.md") for path in TOP.glob(pattern)

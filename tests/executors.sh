@@ -55,7 +55,7 @@ compare_results "a part of the corpus" "passed," "$python" "$top/conformance/run
     --device "$python $top/conformance/as_command.py"
 if "$python" "$top/conformance/run.py" --executor tcp://localhost:1 --touch-line touch --device x 2>"$work/faults" ||
     ! grep -q "it must be dask://HOST:PORT" "$work/faults"; then
-    echo "FAILED  a wrong address: $(cat "$work/faults")"
+    echo "FAILED  an invalid address: $(cat "$work/faults")"
     failed=1
 fi
 exit "$failed"

@@ -27,28 +27,28 @@ fail() {
     exit 1
 }
 
-# Runs a command that must exit with STATUS. Its output is written to $work/out, and its messages to $work/said:
+# Runs a command that must exit with STATUS. Its output is written to $work/out, and its messages to $work/messages:
 # expect_status STATUS COMMAND ARGUMENT ..
 expect_status() {
     local wanted=$1 status=0
     shift
-    "$@" <"$log" >"$work/out" 2>"$work/said" || status=$?
-    [ "$status" = "$wanted" ] || fail "$*: exit status $status, expected $wanted: $(<"$work/said")"
+    "$@" <"$log" >"$work/out" 2>"$work/messages" || status=$?
+    [ "$status" = "$wanted" ] || fail "$*: exit status $status, expected $wanted: $(<"$work/messages")"
 }
 
 # Checks that a command replays the log and prints no message: check_replay COMMAND
 check_replay() {
     expect_status 0 "$@" replay
     [ "$(<"$work/out")" = "$(<"$log")" ] || fail "$* does not replay"
-    [ ! -s "$work/said" ] || fail "$* printed: $(<"$work/said")"
+    [ ! -s "$work/messages" ] || fail "$* printed: $(<"$work/messages")"
 }
 
 # Checks that the log is replayed, and that a message asks to build the program again: check_stale_message CAUSE
 check_stale_message() {
     expect_status 0 "$copy/hidlog" replay
     [ "$(<"$work/out")" = "$(<"$log")" ] || fail "$1: it does not replay"
-    [[ $(<"$work/said") =~ ^hidlog:\ [^$'\n']*older[^$'\n']*"rt ci && packages/build_release.sh"$ ]] ||
-        fail "$1: $(<"$work/said")"
+    [[ $(<"$work/messages") =~ ^hidlog:\ [^$'\n']*older[^$'\n']*"rt ci && packages/build_release.sh"$ ]] ||
+        fail "$1: $(<"$work/messages")"
 }
 
 check_replay "$copy/hidlog"
@@ -88,5 +88,5 @@ if command -v python3 >/dev/null; then
     rm "$work/bin/python3"
 fi
 PATH=$work/bin expect_status 2 "$copy/hidlog" mermaid
-grep -q "^hidlog: mermaid .* python3 is missing" "$work/said" || fail "without Python: $(cat "$work/said")"
+grep -q "^hidlog: mermaid .* python3 is missing" "$work/messages" || fail "without Python: $(cat "$work/messages")"
 echo "tests/launcher.sh: all passed"

@@ -27,7 +27,7 @@ mapfile -t shell < <(git ls-files -z -co --exclude-standard |
 shellcheck --severity=warning "${shell[@]}"
 # A command that stops reading early can end the writing command with SIGPIPE, which pipefail turns into a failure.
 early=$(grep -l pipefail "${shell[@]}" | xargs grep -nE '[^|][|] *(head|grep -[a-zA-Z]*[qm])' || true)
-[ -z "$early" ] || { echo "FAILED: read all of it, as sed -n 1p does:"; echo "$early"; exit 1; }
+[ -z "$early" ] || { echo "FAILED: these commands stop reading a pipe early (use sed -n 1p):"; echo "$early"; exit 1; }
 mapfile -t python < <(git ls-files -co --exclude-standard '*.py')
 black --quiet --check --line-length 120 "${python[@]}"
 untyped='^(bench|examples|bindings/python/src|tests/(failing|fuzz|python|web))/'

@@ -101,11 +101,13 @@ class Log:
         assert run_command("live", told, self.options) == told, f"{self.name}: live changes its own output"
         assert run_command("replay", told, self.options) == told, f"{self.name}: replay changes the output of live"
         if b"# need " in self.text:
-            assert told == self.text, f"{self.name} has other needs than the output of live"
+            assert told == self.text, f"the needs in {self.name} differ from those in the output of live"
             return
         lines = told.splitlines(keepends=True)
         needs = sum(line.startswith(b"# need ") for line in lines)
-        assert needs == sum(map(is_input, self.lines)), f"{self.name} has {needs} needs"
+        assert needs == sum(
+            map(is_input, self.lines)
+        ), f"the output of live for {self.name} has {needs} needs, expected one per input"
         rest = b"".join(line for line in lines if not line.startswith((b"# need ", b"# signed ")))
         assert rest == self.text, f"{self.name}: without the needs, the output of live differs from the log"
 

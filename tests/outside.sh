@@ -37,9 +37,9 @@ entry=$(sed -n 's/^ENTRYPOINT \["\(.*\)"\]/\1/p' "$top/Dockerfile")
 user=$(sed -n 's/^USER //p' "$top/Dockerfile")
 chmod 755 "$work" "$work/image"
 if [ "$(id -u)" = 0 ]; then
-    said=$(chroot --userspec="$user" "$work/image" "$entry" check <"$log")
-    [ "$said" = "same 14 inputs 22 packets" ] || fail "unexpected output of the image: $said"
-    [ "$(find "$work/image" -type f | wc -l)" = 4 ] || fail "the image has other files"
+    output=$(chroot --userspec="$user" "$work/image" "$entry" check <"$log")
+    [ "$output" = "same 14 inputs 22 packets" ] || fail "unexpected output of the image: $output"
+    [ "$(find "$work/image" -type f | wc -l)" = 4 ] || fail "the image must have 4 files, not $(find "$work/image" -type f | wc -l)"
     echo "tests/outside.sh: the image of 4 files plays a log, as the user $user"
     ran=1
 fi
@@ -75,7 +75,7 @@ install_by_action() {
     rm -f "$work/path" "$work/env" "$work/output"
     RUNNER_TEMP=$work/temp GITHUB_PATH=$work/path GITHUB_ENV=$work/env GITHUB_OUTPUT=$work/output ACTION=$top \
         PYTHON=$work/$1/bin/python REQUIREMENTS=${2-} PYTHONDONTWRITEBYTECODE=1 \
-        PIP_NO_DEPS=1 PIP_NO_INDEX=1 PIP_FIND_LINKS=$work/dist bash -e "$work/install.sh" >"$work/said" 2>&1
+        PIP_NO_DEPS=1 PIP_NO_INDEX=1 PIP_FIND_LINKS=$work/dist bash -e "$work/install.sh" >"$work/output" 2>&1
 }
 
 # Checks that the action installs packages only from its own checkout, or from a requirements file with hashes.
@@ -83,18 +83,18 @@ check_hashes() {
     /usr/bin/python3 -m venv --without-pip "$work/bare" || fail "cannot create a virtual environment"
     print_step 'step.get("id") == "install"' >"$work/install.sh"
     ! install_by_action bare || fail "the action installs without cryptography"
-    grep -q '^::error::the Python package cryptography is missing' "$work/said" || fail "unexpected message: $(cat "$work/said")"
+    grep -q '^::error::the Python package cryptography is missing' "$work/output" || fail "unexpected message: $(cat "$work/output")"
     # A requirements file that names the package hidlog itself.
     local wheel=("$work"/dist/*x86_64.whl) version
     version=$(sed -n 's/^version: //p' "$top/release/BUILD")
     echo "hidlog==$version" >"$work/requirements.txt"
     ! install_by_action venv "$work/requirements.txt" || fail "the action installs a package without a hash"
-    grep -q 'Hashes are required' "$work/said" || fail "unexpected message of the action: $(cat "$work/said")"
-    [ -z "$(find "$work/temp" -name '*.whl')" ] || fail "the action went on without the requirements"
+    grep -q 'Hashes are required' "$work/output" || fail "unexpected message of the action: $(cat "$work/output")"
+    [ -z "$(find "$work/temp" -name '*.whl')" ] || fail "the action continued after pip had rejected the requirements"
     echo "hidlog==$version --hash=sha256:$(printf %064d 0)" >"$work/requirements.txt"
-    ! install_by_action venv "$work/requirements.txt" || fail "the action installs a package of another hash"
+    ! install_by_action venv "$work/requirements.txt" || fail "the action installs a package with another hash"
     echo "hidlog==$version --hash=sha256:$(sha256sum "${wheel[0]}" | cut -c1-64)" >"$work/requirements.txt"
-    install_by_action venv "$work/requirements.txt" || fail "the action refuses the right hash: $(cat "$work/said")"
+    install_by_action venv "$work/requirements.txt" || fail "the action refuses the right hash: $(cat "$work/output")"
     [ "$(grep -c 'pip' "$work/install.sh")" = "$(grep -cE -- '--require-hashes|--no-index|^ *pip=' "$work/install.sh")" ] ||
         fail "the action calls pip without --require-hashes or --no-index"
     echo "tests/outside.sh: the action fetches nothing without a hash"
@@ -104,12 +104,12 @@ if /usr/bin/python3 -c 'import yaml, hatchling, venv, pytest, cryptography' 2>/d
     /usr/bin/python3 -m venv --system-site-packages "$work/venv"
     "$top/bindings/python/build.sh" "$work/dist" >/dev/null
     check_hashes
-    install_by_action venv || fail "the action does not install: $(cat "$work/said")"
+    install_by_action venv || fail "the action does not install: $(cat "$work/output")"
     /usr/bin/python3 "$top/tests/wheels_same.py" "$work"/temp/hidlog/wheel/*.whl "$work"/dist/*x86_64.whl
-    grep -q '^hidlog [0-9]' "$work/said" || fail "unexpected message of the action: $(cat "$work/said")"
+    grep -q '^hidlog [0-9]' "$work/output" || fail "unexpected message of the action: $(cat "$work/output")"
     PATH=$(cat "$work/path"):$PATH
     [ "$(hidlog check "$log")" = "same 14 inputs 22 packets" ] || fail "the action's program is not on PATH"
-    # shellcheck disable=SC1091 # it is made here
+    # shellcheck disable=SC1091 # it is generated above
     set -a && source "$work/env" && set +a
     mkdir "$work/suite"
     cat >"$work/suite/test_it.py" <<'END'
@@ -119,18 +119,18 @@ def test_that_fails(security_key):
     assert not security_key.browser("http://localhost:5000").create(options)
 END
     (cd "$work/suite" && "$work/venv/bin/python" -m pytest -q -p no:cacheprovider \
-        --security-key-log "$HIDLOG_LOG_DIR" .) >"$work/said" && fail "the test should have failed"
+        --security-key-log "$HIDLOG_LOG_DIR" .) >"$work/output" && fail "the test should have failed"
     kept=("$HIDLOG_LOG_DIR"/*.log)
-    [ -s "${kept[0]}" ] || fail "no recording was kept: $(cat "$work/said")"
+    [ -s "${kept[0]}" ] || fail "no recording was kept: $(cat "$work/output")"
     [[ $(hidlog check "${kept[0]}") = same\ * ]] || fail "the recording differs"
     write_summary 900000
     awk '/^```/ { n++; next } n == 1' "$work/summary" >"$work/kept.log"
     awk '/^```/ { n++; next } n == 3' "$work/summary" | base64 -d | cmp - "$HIDLOG_LOG_DIR/x.snapshot" ||
-        fail "the summary has another snapshot"
-    cmp "$work/kept.log" "${kept[0]}" || fail "the summary has another recording: $(cat "$work/summary")"
+        fail "the snapshot in the summary differs"
+    cmp "$work/kept.log" "${kept[0]}" || fail "the recording in the summary differs: $(cat "$work/summary")"
     write_summary 10
     grep -q "^${kept[0]##*/} is left out: [0-9]* bytes" "$work/summary" || fail "a recording that is left out is not listed"
     echo "tests/outside.sh: the action installs, and a failed test's recording is kept"
     ran=1
 fi
-[ "$ran" = 1 ] || { echo "tests/outside.sh: needs root, or python3-yaml and hatchling; nothing was run" >&2; exit 3; }
+[ "$ran" = 1 ] || { echo "tests/outside.sh: needs root, or Python's yaml, hatchling, venv, pytest and cryptography (tests/run --install); nothing was run" >&2; exit 3; }

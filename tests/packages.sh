@@ -20,8 +20,8 @@ fail() {
 
 # Checks that a program replays the log: check_replay PROGRAM
 check_replay() {
-    "$1" check <"$log" >"$work/said" || fail "$1 does not replay $log"
-    grep -q "^same " "$work/said" || fail "unexpected output of $1: $(cat "$work/said")"
+    "$1" check <"$log" >"$work/output" || fail "$1 does not replay $log"
+    grep -q "^same " "$work/output" || fail "unexpected output of $1: $(cat "$work/output")"
 }
 
 # The second build starts a second later, so that its timestamps would differ.
@@ -41,7 +41,7 @@ run_cases() {
 
 # Checks that a program has the same bytes as release/hidlog, and replays the log: check_program PROGRAM
 check_program() {
-    cmp "$1" "$top/release/hidlog" || fail "$1 is another program"
+    cmp "$1" "$top/release/hidlog" || fail "$1 differs from release/hidlog"
     check_replay "$1"
 }
 
@@ -108,12 +108,12 @@ if command -v aarch64-linux-gnu-gcc >/dev/null && command -v qemu-aarch64-static
     aarch64-linux-gnu-gcc -I "$work/arm64/usr/include" -o "$work/key_arm64" "$top/tests/c/key.c" -L "$other" -lhidlog
     qemu-aarch64-static -L /usr/aarch64-linux-gnu -E "LD_LIBRARY_PATH=$other" "$work/key_arm64" <"$log" | cmp - "$log" ||
         fail "a program with the library for arm64 fails"
-    echo "tests/packages.sh: a C program with the packages for arm64 plays a session, by qemu"
+    echo "tests/packages.sh: a C program with the packages for arm64 replays a session in qemu"
     if [ -e "$top/release/aarch64/hidlog" ]; then
         mkdir "$work/tarball_arm64"
         tar -C "$work/tarball_arm64" -xzf "$work"/first/hidlog-*-linux-aarch64.tar.gz
         for program in "$work/arm64/usr/lib/hidlog/hidlog" "$work"/tarball_arm64/hidlog-*/bin/hidlog; do
-            cmp "$program" "$top/release/aarch64/hidlog" || fail "$program is another program"
+            cmp "$program" "$top/release/aarch64/hidlog" || fail "$program differs from release/aarch64/hidlog"
         done
         printf '#!/bin/sh\nexec qemu-aarch64-static -0 hidlog %s "$@"\n' "$top/release/aarch64/hidlog" >"$work/hidlog_arm64"
         chmod +x "$work/hidlog_arm64"
@@ -121,7 +121,7 @@ if command -v aarch64-linux-gnu-gcc >/dev/null && command -v qemu-aarch64-static
         "$top/tests/worked_logs.sh" "$work/hidlog_arm64" >"$work/worked_arm64" || fail "$(tail -5 "$work/worked_arm64")"
         [ "$(print_summary_at_terminal "$work/hidlog_arm64")" = "$(print_summary_at_terminal "$top/release/hidlog")" ] ||
             fail "the program for arm64 ignores the terminal's width"
-        echo "tests/packages.sh: the program for arm64 plays the worked logs, by qemu"
+        echo "tests/packages.sh: the program for arm64 replays the worked logs in qemu"
     fi
 fi
 # Imports the npm package by name in a module, with `require`, and in TypeScript.
@@ -141,9 +141,9 @@ if command -v node >/dev/null; then
             fail "the npm package's types accept any argument"
     fi
     run_cases npm "$work/npm/node_modules/hidlog/cli.mjs" test_cases_of_file test_log_outputs
-    HIDLOG_PROGRAM=$top/release/hidlog node "$top/tests/web/npm_package.mjs" "$work/npm" || fail "the npm package's command or README"
+    HIDLOG_PROGRAM=$top/release/hidlog node "$top/tests/web/npm_package.mjs" "$work/npm" || fail "a test of the npm package's command or README fails"
     "$top/tests/clients/browser_cases.py" npm node "$top/tests/clients/cases/server.mjs" "$work/npm/node_modules/hidlog/node.mjs" ||
-        fail "the npm package's results"
+        fail "the results of the npm package differ"
     echo "tests/packages.sh: the npm package is loaded"
 fi
 # The commands and the help must be the same in all packages.
@@ -156,13 +156,13 @@ python3 "$top/tests/packages_hold.py" "$work/first"
 # Checks systemd's exposure score of the unit, from 0 to 100. It would be 44 as root and without a system call filter.
 if command -v systemd-analyze >/dev/null; then
     systemd-analyze security --no-pager --offline=yes --threshold=19 "$work/root/lib/systemd/system/hidlog-uhid@.service" \
-        >"$work/said" || fail "the unit of hidlog-uhid is too exposed: $(tail -1 "$work/said")"
-    echo "tests/packages.sh: $(tail -1 "$work/said")"
+        >"$work/output" || fail "the unit of hidlog-uhid is too exposed: $(tail -1 "$work/output")"
+    echo "tests/packages.sh: $(tail -1 "$work/output")"
 else
     echo "tests/packages.sh: systemd-analyze was not run (apt-get install systemd)"
 fi
 for run in "${waiting[@]}"; do
-    wait "${run% *}" || fail "the command of ${run#* }: $(cat "$work/cases.${run#* }")"
+    wait "${run% *}" || fail "a test of the command of ${run#* } fails: $(cat "$work/cases.${run#* }")"
     echo "tests/packages.sh: the command of ${run#* }: $(tail -1 "$work/cases.${run#* }")"
 done
 if command -v lintian >/dev/null; then

@@ -79,7 +79,9 @@ def check_licences() -> None:
         assert b"Permission is hereby granted" in texts, f"{name} has no MIT licence"
         assert b"Apache License" in texts or b"common-licenses/Apache-2.0" in texts, f"{name} has no Apache licence"
         if name in find_packages_with_any_program():
-            assert b"Free Software" in texts and b"LGPL" in texts or b"Lesser General" in texts, f"{name}: no notice"
+            assert (
+                b"Free Software" in texts and b"LGPL" in texts or b"Lesser General" in texts
+            ), f"{name} has no licence of the C library"
     for library, program in PROGRAMS.items():
         found = find_packages_with(program)
         assert {"hidlog_", "hidlog-"} == {name[:7] for name in found}, found
@@ -97,7 +99,9 @@ def check_man_page_paths() -> None:
         files = next(found for name, found in PACKAGES.items() if package in name)
         for path in named:
             pattern = re.compile(root + re.escape(path).replace(r"\*", "[^/]*") + "$")
-            assert any(pattern.match(file) for file in files), f"the man page names {path}, which {package} hasn't got"
+            assert any(
+                pattern.match(file) for file in files
+            ), f"the man page names {path}, which {package} does not have"
 
 
 def check_links() -> None:

@@ -26,12 +26,13 @@ copy_packages() {
 }
 
 sign() {
-    "$top/packages/sign.sh" "$work/$1" "$made" "$work/signers" >"$work/said" 2>&1
+    "$top/packages/sign.sh" "$work/$1" "$made" "$work/signers" >"$work/output" 2>&1
 }
 
+# Expects that sign.sh refuses to sign, with a message: expect_signing_refused KEY TEXT MESSAGE
 expect_signing_refused() {
     ! sign "$1" || fail "sign.sh signs $2"
-    grep -q "$3" "$work/said" || fail "unexpected message for $2: $(cat "$work/said")"
+    grep -q "$3" "$work/output" || fail "sign.sh, $2: unexpected message: $(cat "$work/output")"
     [ ! -e "$made/SHA256SUMS.sig" ] && [ ! -e "$made/$provenance.sig" ] || fail "signature files remain after signing $2"
 }
 
@@ -39,14 +40,14 @@ expect_signing_refused() {
 verify_packages() {
     (cd "$made" && ssh-keygen -Y verify -f "$work/signers" -I cogtzil -n hidlog-release -s SHA256SUMS.sig <SHA256SUMS &&
         ssh-keygen -Y verify -f "$work/signers" -I cogtzil -n hidlog-release -s "$provenance.sig" <"$provenance" &&
-        sha256sum --check --strict --ignore-missing SHA256SUMS) >"$work/said" 2>&1
+        sha256sum --check --strict --ignore-missing SHA256SUMS) >"$work/output" 2>&1
 }
 
 # Expects that the changed packages are not valid, and then signs a new copy of the packages: expect_invalid TEXT
 expect_invalid() {
     ! verify_packages || fail "$1 is accepted"
     copy_packages "$packages"
-    sign maintainer || fail "$(cat "$work/said")"
+    sign maintainer || fail "$(cat "$work/output")"
 }
 
 packages=$(cd "$1" && pwd)
@@ -78,10 +79,10 @@ rm "$made/$provenance"
 
 # Signed packages that are changed after signing.
 copy_packages "$packages"
-sign maintainer || fail "$(cat "$work/said")"
-verify_packages || fail "the signatures are not valid: $(cat "$work/said")"
+sign maintainer || fail "$(cat "$work/output")"
+verify_packages || fail "the signatures are not valid: $(cat "$work/output")"
 rm "$made"/*.crate
-verify_packages || fail "the signatures of a part of the packages are not valid: $(cat "$work/said")"
+verify_packages || fail "the signatures of a part of the packages are not valid: $(cat "$work/output")"
 printf x >>"$made/$deb"
 expect_invalid "a changed package"
 sed -i "s/^[0-9a-f]\{8\}/00000000/" "$made/SHA256SUMS"
@@ -103,5 +104,5 @@ rm "$made/SHA256SUMS.sig"
 ssh-keygen -Y sign -q -f "$work/maintainer" -n file "$made/SHA256SUMS"
 expect_invalid "a signature for another purpose"
 ssh-keygen -Y verify -f "$top/packages/signers" -I cogtzil -n hidlog-release -s "$made/SHA256SUMS.sig" \
-    <"$made/SHA256SUMS" >/dev/null 2>&1 && fail "packages/signers has a key of a test"
+    <"$made/SHA256SUMS" >/dev/null 2>&1 && fail "packages/signers has the key of this test"
 echo "tests/packages_signed.sh: releases are signed and verified, and each change is refused"

@@ -59,9 +59,9 @@ run_blocks() {
         unshare --pid --fork --kill-child --mount-proc="$system/proc" \
             chroot --userspec=tester --groups=tester "$system" /usr/bin/env -i PATH=/usr/bin:/bin HOME=/home/tester \
             LANG=C.UTF-8 DEBIAN_FRONTEND=noninteractive bash -c 'cd ~/cogtzil && set -e && source ~/block.sh' \
-            >"$work/said" 2>&1 </dev/null || return 1
+            >"$work/output" 2>&1 </dev/null || return 1
         text=${block%.sh}.text
-        [ ! -e "$text" ] || diff "$text" <(sed 's/ *$//' "$work/said") >"$work/differs" || return 1
+        [ ! -e "$text" ] || diff "$text" <(sed 's/ *$//' "$work/output") >"$work/differs" || return 1
     done
 }
 
@@ -76,9 +76,9 @@ follow_section() {
     { run_blocks "$system" "$work/get" && run_blocks "$system" "$work/section"; } || status=FAILED
     umount -l "$system/proc" "$system/dev/shm" "$system/dev"
     [ "$((SECONDS - began))" -lt 600 ] || status=FAILED
-    echo "$status $1, $((SECONDS - began)) s: $(tail -1 "$work/said")"
+    echo "$status $1, $((SECONDS - began)) s: $(tail -1 "$work/output")"
     if [ "$status" = FAILED ]; then
-        tail -30 "$work/said" | sed 's/^/    /'
+        tail -30 "$work/output" | sed 's/^/    /'
         [ ! -s "$work/differs" ] || sed 's/^/    ! /' "$work/differs"
         failed=1
     fi

@@ -1,9 +1,10 @@
 #!/usr/bin/env bash
-# Runs the libraries' tests COUNT times, and lets the Nth allocation of each test fail in the Nth run (decode_value,
-# encode_value and save allocate): tests/refused_memory.sh [COUNT] [default: 12]. Needs rt and Python 3.
+# Runs the libraries' tests COUNT times, and lets the Nth allocation of each test fail in the Nth run:
+# tests/refused_memory.sh [COUNT] [default: 12]. Needs rt and Python 3.
 #
 # Exits with 0 if a failed allocation changes only the result, and with 1 otherwise. A test whose allocation fails may
-# fail only with the allocation error. Tests named `*_after_refused_memory` repeat the call and must pass.
+# fail only with the allocation error. Tests named `*_after_refused_memory` repeat the call and must pass. The results
+# of the program's tests are ignored, since these compare its exit status.
 set -u
 cd "$(dirname "$0")/.." || exit 2
 work=$(mktemp -d)
@@ -25,15 +26,15 @@ for number in runs:
         output = file.read()
     tests = re.findall(r"^test (\S+) \.\.\. (ok|FAILED)\n((?:    .*\n)*)", output, re.M)
     if not tests:
-        wrong.append(f"allocation {number}: nothing ran")
+        wrong.append(f"allocation {number}: no test ran")
     for test, result, text in tests:
-        if result == "ok":
+        if result == "ok" or test.startswith("logs::program::"):
             continue
         refusals += 1
         if test.endswith("_after_refused_memory") or not REFUSED.search(text):
             wrong.append(f"allocation {number}: {test}")
 for line in wrong:
     print(line)
-print(f"{len(runs)} runs, {refusals} tests ended since memory was refused: {'wrong' if wrong else 'well'}")
+print(f"{len(runs)} runs, {refusals} tests failed since an allocation failed: {'see above' if wrong else 'all as expected'}")
 sys.exit(1 if wrong else 0)
 JUDGE

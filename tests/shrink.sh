@@ -15,7 +15,7 @@ fail() {
 
 # Runs `hidlog shrink`, which minimizes a log: run_shrink ARGUMENT ..
 run_shrink() {
-    python3 -m hidlog shrink "$@" >"$work/smaller" 2>"$work/said"
+    python3 -m hidlog shrink "$@" >"$work/smaller" 2>"$work/messages"
 }
 
 # Prints the number of inputs in the minimized log.
@@ -26,14 +26,14 @@ count_inputs() {
 # Writes an example with the 20th hex digit of a line replaced: write_changed_log LINE EXAMPLE
 write_changed_log() {
     awk -v at="$1" 'NR == at { $2 = substr($2, 1, 19) "f" substr($2, 21) } { print }' "examples/$2" >"$work/changed"
-    cmp -s "examples/$2" "$work/changed" && fail "nothing was changed"
+    cmp -s "examples/$2" "$work/changed" && fail "examples/$2 has no line $1, or it has f at the 20th digit"
     return 0
 }
 
 # Checks that `hidlog check` reports a difference at packet K of a response in the minimized log: expect_difference K
 expect_difference() {
     if release/hidlog check <"$work/smaller" 2>"$work/fault" || ! grep -q "differs at packet $1\$" "$work/fault"; then
-        fail "the shorter log: $(cat "$work/fault")"
+        fail "the minimized log must differ at packet $1: $(cat "$work/fault")"
     fi
 }
 
@@ -41,7 +41,7 @@ expect_difference() {
 write_changed_log "$(awk '/^s 320 /{ print NR + 4 }' examples/sign_in.log)" sign_in.log
 run_shrink "$work/changed" release/hidlog check
 expect_difference 4
-release/hidlog show <"$work/smaller" 2>"$work/said" | grep 'request 02 {1: "example.com"' >/dev/null
+release/hidlog show <"$work/smaller" 2>"$work/messages" | grep 'request 02 {1: "example.com"' >/dev/null
 [ "$(wc -l <"$work/smaller")" -lt "$(wc -l <"$work/changed")" ]
 
 # A log of 10,000 lines, which include the registration and the sign-in whose response is changed.
@@ -56,7 +56,7 @@ release/hidlog show <"$work/smaller" 2>"$work/said" | grep 'request 02 {1: "exam
 for log in long longer; do
     : >"$work/runs"
     python3 -m hidlog shrink "$work/$log" sh -c "echo >>'$work/runs'; release/hidlog check" >"$work/smaller" \
-        2>"$work/said" || fail "10,000 lines: $(cat "$work/said")"
+        2>"$work/messages" || fail "10,000 lines: $(cat "$work/messages")"
     [ "$(wc -l <"$work/runs")" -lt 200 ] || fail "10,000 lines took $(wc -l <"$work/runs") runs"
     expect_difference 4
     [ "$(wc -l <"$work/smaller")" -lt 40 ] || fail "$(wc -l <"$work/smaller") lines are left"
@@ -76,7 +76,7 @@ expect_difference 1
 asks='release/hidlog replay | if grep -q "^< [0-9a-f]*bb000102"; then echo "asks for presence"; exit 1; fi'
 run_shrink --match "asks for presence" examples/sign_in.log sh -c "$asks"
 if sh -c "$asks" <"$work/smaller" >"$work/fault"; then
-    fail "what is left does not ask for presence"
+    fail "the minimized log requests no user presence"
 fi
 [ "$(count_inputs)" -lt 6 ] || fail "$(cat "$work/smaller")"
 
@@ -85,14 +85,14 @@ fi
 sed '22s/granted/denied/' examples/sign_in.log | release/hidlog replay >"$work/right"
 denied="! release/hidlog replay | release/hidlog show --summary | grep 'GetAssertion .*OPERATION_DENIED' >/dev/null"
 run_shrink "$work/right" sh -c "$denied"
-sh -c "$denied" <"$work/smaller" && fail "what is left has no denied sign-in"
+sh -c "$denied" <"$work/smaller" && fail "the minimized log has no denied sign-in"
 [ "$(count_inputs)" = 8 ] || fail "$(count_inputs) inputs remain of TOUR.md's log: $(cat "$work/smaller")"
-[ "$(grep -c '^p .* denied$' "$work/smaller")" = 1 ] || fail "a denial is missing"
+[ "$(grep -c '^p .* denied$' "$work/smaller")" = 1 ] || fail "the minimized log must have one denial"
 
 # A finding that `hidlog judge` prints to standard output. A signature counter that does not increase needs two
 # sign-ins.
 run_shrink examples/failing/stale_sign_count.log python3 -m hidlog judge
-python3 -m hidlog judge "$work/smaller" >"$work/found" && fail "no finding in the shorter log"
+python3 -m hidlog judge "$work/smaller" >"$work/found" && fail "judge has no finding in the minimized log"
 grep -q 'expected: a signature counter above 1' "$work/found" || fail "$(cat "$work/found")"
 [ "$(grep -c '^s ' "$work/smaller")" = 2 ] || fail "$(grep -c '^s ' "$work/smaller") signatures are left"
 # A finding on a later line of the output, such as that of `check --signatures`.
@@ -112,24 +112,24 @@ exit "$status"
 STOPS
 write_changed_log "$(awk '/^s 320 /{ print NR + 4 }' examples/sign_in.log)" sign_in.log
 status=0
-python3 -m hidlog shrink "$work/changed" sh "$work/stops" "$(wc -l <"$work/changed")" >"$work/smaller" 2>"$work/said" ||
+python3 -m hidlog shrink "$work/changed" sh "$work/stops" "$(wc -l <"$work/changed")" >"$work/smaller" 2>"$work/messages" ||
     status=$?
-[ "$status" = 130 ] || fail "SIGINT: status $status"
-grep -q '^hidlog shrink: interrupted$' "$work/said" || fail "SIGINT: $(cat "$work/said")"
+[ "$status" = 130 ] || fail "SIGINT: expected status 130, got $status"
+grep -q '^hidlog shrink: interrupted$' "$work/messages" || fail "SIGINT: $(cat "$work/messages")"
 expect_difference 4
-[ "$(wc -l <"$work/smaller")" -lt "$(wc -l <"$work/changed")" ] || fail "SIGINT: nothing was kept"
+[ "$(wc -l <"$work/smaller")" -lt "$(wc -l <"$work/changed")" ] || fail "SIGINT: the log was not minimized"
 
 # Expects exit status 2, no output, and a message for invalid arguments: expect_usage_error TEXT ARGUMENT ..
 expect_usage_error() {
     local text=$1 status=0
     shift
     run_shrink "$@" </dev/null || status=$?
-    [ "$status" = 2 ] || fail "status $status: $*"
+    [ "$status" = 2 ] || fail "expected status 2, got $status: $*"
     [ ! -s "$work/smaller" ] || fail "a log was written: $*"
-    grep -qF -- "$text" "$work/said" || fail "$*: $(cat "$work/said")"
+    grep -qF -- "$text" "$work/messages" || fail "$*: $(cat "$work/messages")"
 }
 expect_usage_error "the command does not fail on the whole log" examples/sign_in.log release/hidlog check
-expect_usage_error "the command does not fail and print 'never said' on the whole log" --match "never said" examples/sign_in.log \
+expect_usage_error "the command does not both fail and print 'never said' on the whole log" --match "never said" examples/sign_in.log \
     sh -c "$asks"
 expect_usage_error "the command is missing after the log" examples/sign_in.log
 expect_usage_error "nothing.log: No such file or directory" nothing.log release/hidlog check

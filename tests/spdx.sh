@@ -25,7 +25,7 @@ download() {
 }
 
 if [ ! -e "$cache/root/.whole" ]; then
-    [ -z "${HIDLOG_OFFLINE-}" ] && download >"$work/said" 2>&1 ||
+    [ -z "${HIDLOG_OFFLINE-}" ] && download >"$work/output" 2>&1 ||
         { echo "tests/spdx.sh: Debian's mirror is unreachable, or HIDLOG_OFFLINE is set; nothing was run" >&2 && exit 3; }
     for package in "$cache"/debs/*.deb; do
         dpkg-deb -x "$package" "$cache/root"
@@ -49,31 +49,31 @@ func main() {
 		err = spdxlib.ValidateDocument(document)
 	}
 	if err != nil {
-		fmt.Println("refused:", err)
+		fmt.Println("rejected:", err)
 		os.Exit(1)
 	}
 	described, err := spdxlib.GetDescribedPackageIDs(document)
 	if err != nil {
-		fmt.Println("refused:", err)
+		fmt.Println("rejected:", err)
 		os.Exit(1)
 	}
 	fmt.Printf("%s, %d packages, %d of them described\n", document.SPDXVersion, len(document.Packages), len(described))
 }
 GO
-GO111MODULE=off GOPATH=$cache/root/usr/share/gocode GOCACHE=$work/go go build -o "$work/judge" "$work/main.go"
+GO111MODULE=off GOPATH=$cache/root/usr/share/gocode GOCACHE=$work/go go build -o "$work/validator" "$work/main.go"
 "$top/packages/build.sh" "$work/made" >/dev/null
 list=$(echo "$work"/made/*.spdx.json)
-"$work/judge" <"$list"
+"$work/validator" <"$list"
 
 # Checks that the validator rejects the document after a change by a sed expression: expect_rejected SED
 expect_rejected() {
     sed "$1" "$list" >"$work/wrong"
     ! cmp -s "$list" "$work/wrong" || { echo "$1 changes nothing" && exit 1; }
-    ! "$work/judge" <"$work/wrong" >"$work/said" || { echo "the tool accepts a document changed by $1" && exit 1; }
+    ! "$work/validator" <"$work/wrong" >"$work/output" || { echo "the validator accepts a document changed by $1" && exit 1; }
 }
 expect_rejected 's/"SPDX-2.3"/"SPDX-9.9"/'
 expect_rejected '0,/"SPDXID": "SPDXRef-h/s//"SPDXID": "h/'
 expect_rejected 's/"Organization: Debian"/"Debian"/'
 expect_rejected '0,/"relatedSpdxElement": "[^"]*/s//&-none/'
 expect_rejected '$d'
-echo "a list that is wrong is refused"
+echo "invalid documents are rejected"

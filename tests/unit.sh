@@ -8,7 +8,7 @@
 #     tests/unit.sh --fail-alloc N    fails the Nth allocation of each test, and prints the results
 set -euo pipefail
 top=$(cd "$(dirname "${BASH_SOURCE[0]}")/.." && pwd)
-command -v rt >/dev/null || { echo "rt is missing; nothing was run" && exit 3; }
+command -v rt >/dev/null || { echo "tests/unit.sh: rt is missing; nothing was run" && exit 3; }
 work=$(mktemp -d)
 trap 'rm -rf "$work"' EXIT
 
@@ -31,8 +31,8 @@ if [ $# -gt 0 ]; then
     rt try --test --seconds 900 "$@"
     exit
 fi
-rt try --test --seconds 900 >"$work/said" 2>&1 || { cat "$work/said" && exit 1; }
-cat "$work/said"
+rt try --test --seconds 900 >"$work/output" 2>&1 || { cat "$work/output" && exit 1; }
+cat "$work/output"
 # Check that every test in the sources has run.
 count=$(grep -rhc '#\[test\]' src | awk '{ sum += $1 } END { print sum }')
-grep -q "ok. $count passed; 0 failed" "$work/said" || { echo "not every test ran" && exit 1; }
+grep -q "ok. $count passed; 0 failed" "$work/output" || { echo "tests/unit.sh: expected $count tests to pass" && exit 1; }

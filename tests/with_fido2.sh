@@ -7,5 +7,5 @@ for python in python3 /usr/bin/python3; do
         exec "$python" "$@"
     fi
 done
-echo "tests/with_fido2.sh: python-fido2 is missing (apt-get install python3-fido2 python3-cryptography); nothing was run" >&2
+echo "tests/with_fido2.sh: python-fido2 or cryptography is missing (apt-get install python3-fido2 python3-cryptography); nothing was run" >&2
 exit 3

@@ -37,7 +37,7 @@ static struct hidlog_credential make_credential(size_t number) {
     return made;
 }
 
-// Sends a message on a channel, skips KEEPALIVEs, and returns the length of the response.
+// Sends a message on a channel, provides what the key needs, skips KEEPALIVEs, and returns the length of the response.
 static size_t exchange(struct hidlog_key *key, uint32_t channel, uint8_t command, const uint8_t *message, size_t len,
                        uint8_t *response) {
     uint8_t packet[64] = {(uint8_t)(channel >> 24),
@@ -78,7 +78,7 @@ static size_t exchange(struct hidlog_key *key, uint32_t channel, uint8_t command
         } else if (kind == HIDLOG_NEED_SIGNATURE) {
             hidlog_key_provide_signature(key, TIME_MS, (const uint8_t[8]){0x30, 6, 2, 1, 1, 2, 1, 1}, 8);
         } else {
-            expect(kind, HIDLOG_NEED_NONE, "what is needed");
+            expect(kind, HIDLOG_NEED_NONE, "the kind of need");
         }
     } while (hidlog_key_queued_packets(key) > 0);
     return whole;
@@ -87,7 +87,7 @@ static size_t exchange(struct hidlog_key *key, uint32_t channel, uint8_t command
 static uint32_t open_channel(struct hidlog_key *key) {
     uint8_t response[7700];
     expect((int64_t)exchange(key, 0xffffffff, INIT, (const uint8_t[8]){1, 2, 3, 4, 5, 6, 7, 8}, 8, response), 17,
-           "INIT");
+           "the response length of INIT");
     return (uint32_t)response[8] << 24 | (uint32_t)response[9] << 16 | (uint32_t)response[10] << 8 | response[11];
 }
 
@@ -114,12 +114,12 @@ static void expect_all_credentials(struct hidlog_key *key, size_t capacity) {
     size_t len = exchange(key, open_channel(key), CBOR, message, sizeof message, response);
     expect(response[0], 0, "the status of a sign-in");
     if (capacity < 256) {
-        expect(response[len - 3], 5, "the last member");
-        expect(response[len - 2], 0x18, "its head");
+        expect(response[len - 3], 5, "the key of the last member");
+        expect(response[len - 2], 0x18, "the CBOR head of numberOfCredentials");
         expect(response[len - 1], (int64_t)capacity, "numberOfCredentials");
     } else {
-        expect(response[len - 4], 5, "the last member");
-        expect(response[len - 3], 0x19, "its head");
+        expect(response[len - 4], 5, "the key of the last member");
+        expect(response[len - 3], 0x19, "the CBOR head of numberOfCredentials");
         expect(response[len - 2] << 8 | response[len - 1], (int64_t)capacity, "numberOfCredentials");
     }
     expect(hidlog_key_pending_assertions(key), (int64_t)capacity - 1, "pending assertions");

@@ -1,6 +1,6 @@
 // Tests the codes of hidlog_key_cause that causes.c does not test, each in a session of its own. The expected values
-// are written by hand from CTAP 2.1. Two codes are not tested: HIDLOG_CAUSE_NO_CHANNEL_LEFT needs 2^32 - 2 INITs, and
-// HIDLOG_CAUSE_EMPTY_REQUEST cannot be reached by packets. Prints nothing and returns 0 on success.
+// are written by hand from CTAP 2.1. Two codes are not tested: HIDLOG_CAUSE_NO_CHANNEL_LEFT needs more than 4 billion
+// INITs, and HIDLOG_CAUSE_EMPTY_REQUEST cannot be reached by packets. Prints nothing and returns 0 on success.
 #include "hidlog.h"
 
 #include <inttypes.h>
@@ -27,7 +27,7 @@ enum kind { END, PACKET, CBOR, PRESENCE, KEY_PAIR, NO_KEY_PAIR, SIGNATURE, NO_SI
 struct event {
     enum kind kind;
     uint64_t at;
-    uint32_t value; // the channel, the presence, each byte of the credential ID, or the first signature counter
+    uint32_t value; // the channel, the presence, each byte of the credential ID, or each signature counter
     const char *digits;
 };
 
@@ -138,18 +138,18 @@ static const struct session sessions[] = {
       {CBOR, 30006, 1, "08"}}},
 };
 
-static size_t number; // of the session, from 0
+static size_t session_index;
 
 static void expect(int is_so, const char *what) {
     if (!is_so) {
-        fprintf(stderr, "cause_codes: session %zu: %s\n", number, what);
+        fprintf(stderr, "cause_codes: session %zu: %s\n", session_index, what);
         exit(1);
     }
 }
 
 static size_t parse_hex(const char *digits, uint8_t *bytes, size_t cap) {
     size_t len = strlen(digits) / 2;
-    expect(len <= cap, "more digits than fit");
+    expect(len <= cap, "a packet or message of the session is too long for the buffer");
     for (size_t i = 0; i < len; i++) {
         unsigned byte;
         expect(sscanf(digits + 2 * i, "%2x", &byte) == 1, digits);
@@ -162,7 +162,7 @@ static void send_packet(struct hidlog_key *key, const struct event *event, const
     uint8_t packet[64] = {(uint8_t)(event->value >> 24), (uint8_t)(event->value >> 16), (uint8_t)(event->value >> 8),
                           (uint8_t)event->value};
     memcpy(packet + 4, bytes, len);
-    expect(hidlog_key_write_packet(key, event->at, packet) >= 0, "a packet");
+    expect(hidlog_key_write_packet(key, event->at, packet) >= 0, "hidlog_key_write_packet failed");
 }
 
 // Sends a message in an initialization packet with up to 57 bytes, and continuation packets with up to 59 bytes.
@@ -192,7 +192,7 @@ static void fill_key(struct hidlog_key *key, uint32_t sign_count) {
     for (unsigned i = 0; i < HIDLOG_CAPACITY; i++) {
         credential.id[0] = (uint8_t)i;
         credential.user_id[0] = (uint8_t)(i + 16);
-        expect(hidlog_key_add_credential(key, 0, &credential) == 0, "a credential");
+        expect(hidlog_key_add_credential(key, 0, &credential) == 0, "hidlog_key_add_credential failed");
     }
 }
 
@@ -207,19 +207,20 @@ static void play_event(struct hidlog_key *key, const struct event *event) {
         send_message(key, event);
         break;
     case PRESENCE:
-        expect(hidlog_key_provide_presence(key, event->at, event->value) >= 0, "a presence");
+        expect(hidlog_key_provide_presence(key, event->at, event->value) >= 0, "hidlog_key_provide_presence failed");
         break;
     case KEY_PAIR:
-        expect(hidlog_key_provide_key_pair(key, event->at, id, bytes, bytes) >= 0, "a key pair");
+        expect(hidlog_key_provide_key_pair(key, event->at, id, bytes, bytes) >= 0,
+               "hidlog_key_provide_key_pair failed");
         break;
     case NO_KEY_PAIR:
-        expect(hidlog_key_refuse_key_pair(key, event->at) >= 0, "no key pair");
+        expect(hidlog_key_refuse_key_pair(key, event->at) >= 0, "hidlog_key_refuse_key_pair failed");
         break;
     case SIGNATURE:
-        expect(hidlog_key_provide_signature(key, event->at, bytes, 1) >= 0, "a signature");
+        expect(hidlog_key_provide_signature(key, event->at, bytes, 1) >= 0, "hidlog_key_provide_signature failed");
         break;
     case NO_SIGNATURE:
-        expect(hidlog_key_refuse_signature(key, event->at) >= 0, "no signature");
+        expect(hidlog_key_refuse_signature(key, event->at) >= 0, "hidlog_key_refuse_signature failed");
         break;
     case STORE:
         fill_key(key, event->value);
@@ -233,12 +234,12 @@ static void expect_cause(struct hidlog_key *key, const struct hidlog_cause *expe
     struct hidlog_cause cause = {0};
     uint8_t text[160];
     int32_t len = hidlog_key_cause(key, 1, &cause, text, sizeof text);
-    expect(len >= 0 && (len > 0) == (expected->code != 0), "a sentence exactly with a cause");
+    expect(len >= 0 && (len > 0) == (expected->code != 0), "expected a sentence if and only if there is a cause");
     if (cause.code != expected->code || cause.status != expected->status || cause.first != expected->first ||
         cause.second != expected->second) {
-        fprintf(stderr, "code %" PRIu32 ", status %" PRIu32 ", %" PRIu64 ", %" PRIu64 ": %.*s\n", cause.code,
+        fprintf(stderr, "got code %" PRIu32 ", status %" PRIu32 ", %" PRIu64 ", %" PRIu64 ": %.*s\n", cause.code,
                 cause.status, cause.first, cause.second, (int)len, (const char *)text);
-        expect(0, "another cause");
+        expect(0, "this is not the expected cause");
     }
 }
 
@@ -247,19 +248,19 @@ int main(void) {
     static const struct hidlog_cause none;
     struct hidlog_key key = {0};
     key.memory = aligned_alloc(16, (hidlog_key_size() + 15) / 16 * 16);
-    expect(key.memory != NULL, "memory");
-    for (number = 0; number < sizeof sessions / sizeof sessions[0]; number++) {
-        const struct event *event = sessions[number].events;
-        expect(hidlog_key_init(&key, aaguid, 0, aaguid, 0) == 0, "a key");
+    expect(key.memory != NULL, "out of memory");
+    for (session_index = 0; session_index < sizeof sessions / sizeof sessions[0]; session_index++) {
+        const struct event *event = sessions[session_index].events;
+        expect(hidlog_key_init(&key, aaguid, 0, aaguid, 0) == 0, "hidlog_key_init failed");
         for (; event->kind != END; event++) {
             uint8_t packet[64];
             play_event(&key, event);
-            expect_cause(&key, event[1].kind == END ? &sessions[number].cause : &none);
+            expect_cause(&key, event[1].kind == END ? &sessions[session_index].cause : &none);
             while (hidlog_key_queued_packets(&key) > 0) {
-                expect(hidlog_key_read_packet(&key, packet) >= 0, "a queued packet");
+                expect(hidlog_key_read_packet(&key, packet) >= 0, "hidlog_key_read_packet failed");
             }
         }
-        expect(hidlog_key_destroy(&key) == 0, "destroy");
+        expect(hidlog_key_destroy(&key) == 0, "hidlog_key_destroy failed");
     }
     free(key.memory);
     return 0;

@@ -73,7 +73,7 @@ static void parse_packet(const char *digits, uint8_t packet[64]) {
 static void discard_packets(struct hidlog_key *key) {
     uint8_t packet[64];
     while (hidlog_key_queued_packets(key) > 0) {
-        expect(hidlog_key_read_packet(key, packet) >= 0, "a queued packet");
+        expect(hidlog_key_read_packet(key, packet) >= 0, "hidlog_key_read_packet failed");
     }
 }
 
@@ -86,7 +86,9 @@ static void expect_cause(struct hidlog_key *key, uint32_t which, const struct hi
     if (len != (int32_t)strlen(sentence) || memcmp(text, sentence, strlen(sentence)) != 0 ||
         cause.code != expected->code || cause.status != expected->status || cause.first != expected->first ||
         cause.second != expected->second) {
-        fprintf(stderr, "causes: unexpected cause: %d bytes, code %" PRIu32 ", status %" PRIu32 ", %" PRIu64 ", %" PRIu64 ": %.*s\n", len,
+        fprintf(stderr,
+                "causes: unexpected cause: %d bytes, code %" PRIu32 ", status %" PRIu32 ", %" PRIu64 ", %" PRIu64
+                ": %.*s; expected:\n", len,
                 cause.code, cause.status, cause.first, cause.second, len > 0 ? (int)len : 0, text);
         expect(0, sentence);
     }
@@ -97,8 +99,9 @@ static void test_timeout(struct hidlog_key *key) {
     static const struct hidlog_cause none, late = {HIDLOG_CAUSE_TIMED_OUT, 0x05, 20000, 20500};
     uint8_t packet[64];
     parse_packet("00000001810064", packet);
-    expect(hidlog_key_write_packet(key, 20000, packet) == 0, "the first packet of a PING");
-    expect(hidlog_key_tick(key, 20500) == 1, "the ERROR of a timeout");
+    expect(hidlog_key_write_packet(key, 20000, packet) == 0,
+           "expected no packet in response to the first packet of a PING");
+    expect(hidlog_key_tick(key, 20500) == 1, "expected one packet, the ERROR of the timeout");
     expect_cause(key, 0, &late,
                  "the message timed out: its last packet came at 20000 ms, 500 ms or more before 20500 ms");
     expect_cause(key, 1, &none, "");
@@ -110,16 +113,19 @@ static void test_invalid_calls(struct hidlog_key *key) {
     struct hidlog_cause cause = {1, 2, 3, 4};
     uint8_t packet[64], text[5];
     parse_packet("0000000190000108", packet);
-    expect(hidlog_key_write_packet(key, 20600, packet) == 1, "getNextAssertion");
+    expect(hidlog_key_write_packet(key, 20600, packet) == 1, "expected one packet in response to getNextAssertion");
     discard_packets(key);
     expect(hidlog_key_cause(key, 2, &cause, text, sizeof text) == HIDLOG_KEY_ERR_INVALID_ARGUMENT && cause.code == 1,
-         "another `which`");
-    expect(hidlog_key_cause(key, 1, &cause, text, sizeof text) == 5 && memcmp(text, "no as", 5) == 0, "a short buffer");
-    expect(hidlog_key_cause(key, 1, &cause, text, 0) == 0 && cause.code == HIDLOG_CAUSE_NOTHING_PENDING, "no buffer");
-    expect(hidlog_key_clear_credentials(key, 20700) == 0, "power-up");
+         "expected an error and an unchanged cause if `which` is 2");
+    expect(hidlog_key_cause(key, 1, &cause, text, sizeof text) == 5 && memcmp(text, "no as", 5) == 0,
+           "expected the first 5 bytes of the sentence");
+    expect(hidlog_key_cause(key, 1, &cause, text, 0) == 0 && cause.code == HIDLOG_CAUSE_NOTHING_PENDING,
+           "expected a cause and no sentence");
+    expect(hidlog_key_clear_credentials(key, 20700) == 0, "hidlog_key_clear_credentials failed");
     expect_cause(key, 1, &none, "");
-    expect(hidlog_key_destroy(key) == 0, "destroy");
-    expect(hidlog_key_cause(key, 1, &cause, text, sizeof text) == HIDLOG_KEY_ERR_NOT_INITIALIZED, "a destroyed key");
+    expect(hidlog_key_destroy(key) == 0, "hidlog_key_destroy failed");
+    expect(hidlog_key_cause(key, 1, &cause, text, sizeof text) == HIDLOG_KEY_ERR_NOT_INITIALIZED,
+           "expected an error from a destroyed key");
 }
 
 int main(void) {
@@ -127,7 +133,8 @@ int main(void) {
     static const struct hidlog_cause none;
     struct hidlog_key key = {0};
     key.memory = aligned_alloc(16, (hidlog_key_size() + 15) / 16 * 16);
-    expect(key.memory != NULL && hidlog_key_init(&key, aaguid, 0, aaguid, 0) == 0, "a key");
+    expect(key.memory != NULL && hidlog_key_init(&key, aaguid, 0, aaguid, 0) == 0,
+           "out of memory, or hidlog_key_init failed");
     expect_cause(&key, 1, &none, "");
     for (size_t i = 0; i < sizeof steps / sizeof steps[0]; i++) {
         uint8_t packet[64];

@@ -68,13 +68,15 @@ static void test_live(void)
 {
     size_t size = read_file("registration.log", log_bytes);
     run(hidlog_live, size, 0, CAPACITY - 1);
-    expect(result.status == HIDLOG_OK, "a registration with needs");
+    expect(result.status == HIDLOG_OK, "hidlog_live replays registration.log");
     out[result.written] = 0;
-    expect(strstr((char *)out, "\n# need presence\n") && strstr((char *)out, "\n# need key\n"), "needs");
+    expect(strstr((char *)out, "\n# need presence\n") && strstr((char *)out, "\n# need key\n"),
+           "the output of hidlog_live has the needs");
     size = result.written;
     memcpy(log_bytes, out, size);
     run(hidlog_replay, size, 0, CAPACITY - 1);
-    expect(result.status == HIDLOG_OK && result.written == size && !memcmp(out, log_bytes, size), "replayed");
+    expect(result.status == HIDLOG_OK && result.written == size && !memcmp(out, log_bytes, size),
+           "the output of hidlog_live is replayed unchanged");
 }
 
 /* With a buffer of each smaller size, the result is an error, and the buffer has the start of the output. */
@@ -129,8 +131,8 @@ static void test_errors(void)
 static void test_difference(void)
 {
     size_t size = read_file("registration.log", log_bytes);
-    char *answer = strstr((char *)log_bytes, "< 00000001bb0001");
-    answer[20] = '1';
+    char *response = strstr((char *)log_bytes, "< 00000001bb0001");
+    response[20] = '1';
     run(hidlog_check, size, 0, CAPACITY - 1);
     expect(is_result(HIDLOG_LOG_ERROR, HIDLOG_ERR_MISMATCH, 5, 1, 0), "a packet that differs");
 }

@@ -66,7 +66,7 @@ static void expect_snapshot(struct hidlog_key *key, const uint8_t *snapshot, int
 static int32_t read_credentials(struct hidlog_key *key, struct hidlog_credential *credentials) {
     int32_t count = hidlog_key_credential_count(key);
     for (int32_t i = 0; i < count; i++) {
-        expect(hidlog_key_get_credential(key, (size_t)i, &credentials[i]), 0, "credential");
+        expect(hidlog_key_get_credential(key, (size_t)i, &credentials[i]), 0, "hidlog_key_get_credential");
     }
     return count;
 }
@@ -84,7 +84,7 @@ static void test_invalid_adds(struct hidlog_key *key, const struct hidlog_creden
     expect(hidlog_key_add_credential(key, AT, &wrong), HIDLOG_KEY_ERR_INVALID_ARGUMENT, "a name that is not UTF-8");
     wrong = *credential;
     wrong.discoverable = 2;
-    expect(hidlog_key_add_credential(key, AT, &wrong), HIDLOG_KEY_ERR_INVALID_ARGUMENT, "discoverable 2");
+    expect(hidlog_key_add_credential(key, AT, &wrong), HIDLOG_KEY_ERR_INVALID_ARGUMENT, "a `discoverable` of 2");
     wrong = *credential;
     wrong.id[0] ^= 1;
     wrong.discoverable = 1;
@@ -111,7 +111,7 @@ static void test_add_again(struct hidlog_key *key, const uint8_t *snapshot, int3
     for (int32_t i = 0; i < count; i++) {
         expect(hidlog_key_add_credential(key, AT, &credentials[i]), 0, "add of an existing credential");
     }
-    expect_snapshot(key, snapshot, len, "save after each was added again");
+    expect_snapshot(key, snapshot, len, "save after each credential was added again");
     for (int32_t i = 0; i < count; i++) {
         expect(hidlog_key_remove_credential(key, AT, credentials[i].id), 0, "remove");
         expect(hidlog_key_credential_count(key), count - i - 1, "credentials after remove");
@@ -126,17 +126,17 @@ static void fill_key(struct hidlog_key *key) {
         expect(hidlog_key_add_credential(key, AT, &credential), 0, "add until the key is full");
     }
     credential.id[30] = 1;
-    expect(hidlog_key_add_credential(key, AT, &credential), HIDLOG_KEY_ERR_FULL, "one more credential");
+    expect(hidlog_key_add_credential(key, AT, &credential), HIDLOG_KEY_ERR_FULL, "add to a full key");
     credential.id[30] = 0;
-    expect(hidlog_key_add_credential(key, AT, &credential), 0, "the last one again");
+    expect(hidlog_key_add_credential(key, AT, &credential), 0, "add of the last credential again");
     expect(hidlog_key_credential_count(key), HIDLOG_CAPACITY, "credentials of a full key");
 }
 
-static void test_busy_key(struct hidlog_key *key, int32_t error) {
+static void test_rejected_changes(struct hidlog_key *key, int32_t error) {
     struct hidlog_credential credential = {0};
-    expect(hidlog_key_add_credential(key, AT, &credential), error, "add of a busy key");
-    expect(hidlog_key_remove_credential(key, AT, credential.id), error, "remove of a busy key");
-    expect(hidlog_key_clear_credentials(key, AT), error, "clear of a busy key");
+    expect(hidlog_key_add_credential(key, AT, &credential), error, "an add that must be rejected");
+    expect(hidlog_key_remove_credential(key, AT, credential.id), error, "a remove that must be rejected");
+    expect(hidlog_key_clear_credentials(key, AT), error, "a clear that must be rejected");
 }
 
 int main(int count, char **words) {
@@ -151,7 +151,7 @@ int main(int count, char **words) {
     if (key.memory == NULL) {
         fail("out of memory");
     }
-    test_busy_key(&key, HIDLOG_KEY_ERR_NOT_INITIALIZED);
+    test_rejected_changes(&key, HIDLOG_KEY_ERR_NOT_INITIALIZED);
     expect(hidlog_key_save_snapshot(&key, snapshot, sizeof snapshot), HIDLOG_KEY_ERR_NOT_INITIALIZED,
          "save of an uninitialized key");
     expect(hidlog_key_init(&key, aaguid, 0, snapshot, 0), 0, "init");
@@ -159,12 +159,12 @@ int main(int count, char **words) {
     int32_t len = read_snapshot(words[1], snapshot);
     expect_snapshot(&key, snapshot, len, "save");
     if (hidlog_key_get_need(&key, &need) != HIDLOG_NEED_NONE) {
-        test_busy_key(&key, HIDLOG_KEY_ERR_BUSY);
+        test_rejected_changes(&key, HIDLOG_KEY_ERR_BUSY);
     } else {
         test_add_again(&key, snapshot, len);
         fill_key(&key);
         expect(hidlog_key_write_packet(&key, AT, init), 1, "INIT");
-        test_busy_key(&key, HIDLOG_KEY_ERR_PACKETS_QUEUED);
+        test_rejected_changes(&key, HIDLOG_KEY_ERR_PACKETS_QUEUED);
     }
     expect(hidlog_key_destroy(&key), 0, "destroy");
     free(key.memory);

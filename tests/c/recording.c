@@ -85,21 +85,23 @@ static void test_packets(struct hidlog_key *key, FILE *log) {
     expect_recorded(hidlog_record_write_packet(key, log, UINT64_C(1099511627776), init), 1,
              repeat_digits("> 1099511627776 ffffffff86000801020304050607fe", "00", 49));
     expect_rejected(hidlog_record_write_packet(key, log, UINT64_C(1099511627777), init), HIDLOG_KEY_ERR_PACKETS_QUEUED,
-             "a packet");
-    expect_rejected(hidlog_record_tick(key, log, UINT64_C(1099511627777)), HIDLOG_KEY_ERR_PACKETS_QUEUED, "a tick");
+             "a packet while another is queued was not rejected");
+    expect_rejected(hidlog_record_tick(key, log, UINT64_C(1099511627777)), HIDLOG_KEY_ERR_PACKETS_QUEUED,
+             "a tick while a packet is queued was not rejected");
     read_response(key, log, "ffffffff86001101020304050607fe00000001");
-    expect_rejected(hidlog_record_read_packet(key, log, packet), HIDLOG_KEY_ERR_NO_PACKET, "no packet is queued");
+    expect_rejected(hidlog_record_read_packet(key, log, packet), HIDLOG_KEY_ERR_NO_PACKET,
+             "a packet was read while none was queued");
     expect_recorded(hidlog_record_tick(key, log, UINT64_C(1099511627781)), 0, "t 1099511627781");
 }
 
 static void test_presence(struct hidlog_key *key, FILE *log) {
     select_key(key, log, UINT64_C(1099511627790), "> 1099511627790 000000019000010b");
     expect_rejected(hidlog_record_provide_presence(key, log, UINT64_C(1099511627791), 3), HIDLOG_KEY_ERR_INVALID_ARGUMENT,
-             "an invalid presence");
+             "an invalid presence was not rejected");
     expect_recorded(hidlog_record_provide_presence(key, log, UINT64_C(1099511627792), HIDLOG_PRESENCE_GRANTED), 1,
              "p 1099511627792 granted");
     expect_rejected(hidlog_record_provide_presence(key, log, UINT64_C(1099511627793), HIDLOG_PRESENCE_GRANTED),
-             HIDLOG_KEY_ERR_PACKETS_QUEUED, "a presence");
+             HIDLOG_KEY_ERR_PACKETS_QUEUED, "a presence while a packet is queued was not rejected");
     read_response(key, log, "0000000190000100");
     select_key(key, log, UINT64_C(1099511627800), "> 1099511627800 000000019000010b");
     expect_recorded(hidlog_record_provide_presence(key, log, UINT64_C(1099511627801), HIDLOG_PRESENCE_DENIED), 1,
@@ -127,9 +129,9 @@ static void test_replies(struct hidlog_key *key, FILE *log) {
     expect_recorded(hidlog_record_provide_key_pair(key, log, UINT64_C(1099511627820), id, x, y), 0, line);
     expect_recorded(hidlog_record_refuse_key_pair(key, log, UINT64_C(1099511627821)), 0, "k 1099511627821 no");
     expect_rejected(hidlog_record_provide_signature(key, log, UINT64_C(1099511627822), signature, 0),
-             HIDLOG_KEY_ERR_INVALID_ARGUMENT, "an empty signature");
+             HIDLOG_KEY_ERR_INVALID_ARGUMENT, "an empty signature was not rejected");
     expect_rejected(hidlog_record_provide_signature(key, log, UINT64_C(1099511627822), signature, 73),
-             HIDLOG_KEY_ERR_INVALID_ARGUMENT, "a long signature");
+             HIDLOG_KEY_ERR_INVALID_ARGUMENT, "a signature of 73 bytes was not rejected");
     expect_recorded(hidlog_record_provide_signature(key, log, UINT64_C(1099511627823), signature, 1), 0, "s 1099511627823 d4");
     expect_recorded(hidlog_record_provide_signature(key, log, UINT64_C(1099511627824), signature, 72), 0,
              repeat_digits("s 1099511627824 ", "d4", 72));
@@ -140,15 +142,21 @@ static void test_replies(struct hidlog_key *key, FILE *log) {
 static void test_destroyed_key(struct hidlog_key *key, FILE *log) {
     uint8_t bytes[64] = {0};
     int32_t wanted = HIDLOG_KEY_ERR_NOT_INITIALIZED;
-    expect_rejected(hidlog_record_write_packet(key, log, 1, bytes), wanted, "a packet to a destroyed key");
-    expect_rejected(hidlog_record_tick(key, log, 1), wanted, "a tick of a destroyed key");
-    expect_rejected(hidlog_record_provide_presence(key, log, 1, 0), wanted, "a presence for a destroyed key");
+    expect_rejected(hidlog_record_write_packet(key, log, 1, bytes), wanted,
+             "write_packet of a destroyed key was not rejected");
+    expect_rejected(hidlog_record_tick(key, log, 1), wanted, "tick of a destroyed key was not rejected");
+    expect_rejected(hidlog_record_provide_presence(key, log, 1, 0), wanted,
+             "provide_presence of a destroyed key was not rejected");
     expect_rejected(hidlog_record_provide_key_pair(key, log, 1, bytes, bytes, bytes), wanted,
-             "a key pair for a destroyed key");
-    expect_rejected(hidlog_record_refuse_key_pair(key, log, 1), wanted, "no key pair for a destroyed key");
-    expect_rejected(hidlog_record_provide_signature(key, log, 1, bytes, 64), wanted, "a signature for a destroyed key");
-    expect_rejected(hidlog_record_refuse_signature(key, log, 1), wanted, "no signature for a destroyed key");
-    expect_rejected(hidlog_record_read_packet(key, log, bytes), wanted, "a packet of a destroyed key");
+             "provide_key_pair of a destroyed key was not rejected");
+    expect_rejected(hidlog_record_refuse_key_pair(key, log, 1), wanted,
+             "refuse_key_pair of a destroyed key was not rejected");
+    expect_rejected(hidlog_record_provide_signature(key, log, 1, bytes, 64), wanted,
+             "provide_signature of a destroyed key was not rejected");
+    expect_rejected(hidlog_record_refuse_signature(key, log, 1), wanted,
+             "refuse_signature of a destroyed key was not rejected");
+    expect_rejected(hidlog_record_read_packet(key, log, bytes), wanted,
+             "read_packet of a destroyed key was not rejected");
 }
 
 #ifndef _WIN32
@@ -159,8 +167,9 @@ static void test_full_disk(struct hidlog_key *key) {
         return; // only Linux has it
     }
     errno = 0;
-    expect(hidlog_record_tick(key, full, UINT64_C(1099511627830)) == HIDLOG_ERR_NOT_RECORDED, "a full disk");
-    expect(errno == ENOSPC, "errno of a full disk");
+    expect(hidlog_record_tick(key, full, UINT64_C(1099511627830)) == HIDLOG_ERR_NOT_RECORDED,
+           "a failed write was not reported");
+    expect(errno == ENOSPC, "errno is not ENOSPC after a failed write");
     (void)fclose(full);
 }
 #endif
@@ -172,15 +181,15 @@ int main(int count, char **words) {
     path = words[1];
     FILE *log = fopen(path, "wb");
     key.memory = aligned_alloc(16, (hidlog_key_size() + 15) / 16 * 16);
-    expect(log != NULL && key.memory != NULL, "cannot create the recording");
-    expect(hidlog_key_init(&key, aaguid, 0, aaguid, 0) == 0, "a key");
+    expect(log != NULL && key.memory != NULL, "cannot create the recording, or out of memory");
+    expect(hidlog_key_init(&key, aaguid, 0, aaguid, 0) == 0, "hidlog_key_init failed");
     test_packets(&key, log);
     test_presence(&key, log);
     test_replies(&key, log);
 #ifndef _WIN32
     test_full_disk(&key);
 #endif
-    expect(hidlog_key_destroy(&key) == 0, "destroy");
+    expect(hidlog_key_destroy(&key) == 0, "hidlog_key_destroy failed");
     test_destroyed_key(&key, log);
     expect(fclose(log) == 0, "cannot close the recording");
     free(key.memory);

@@ -3,7 +3,7 @@
 # the causes of rejected inputs (causes.c, cause_codes.c), the key's credentials (credentials.c) and capacity
 # (capacity.c), and recordings (recording.c). For each worked log, the output must equal that of the program hidlog.
 # Uses the static and the shared library of release/, gcc's sanitizers, and if installed musl and aarch64 with qemu.
-# Also checks that the libraries call only memcpy, memmove and memset, and that a C++ compiler accepts the header. Exits
+# Also checks that the libraries call only memcpy, memmove and memset, and that a C++ compiler accepts the headers. Exits
 # with 3 if gcc is missing.
 #
 #     tests/c/run.sh                                      the libraries of release/
@@ -182,10 +182,11 @@ else
     echo "tests/c: pkg-config was not tested (apt-get install pkgconf)"
 fi
 if command -v g++ >/dev/null; then
-    g++ -std=c++17 -Wall -Wextra -Werror -fsyntax-only -x c++ "$top/release/hidlog_recording.h"
-    echo "tests/c: C++ accepts the header"
+    g++ -std=c++17 -Wall -Wextra -Werror -fsyntax-only -include "$top/release/hidlog_standard.h" -x c++ \
+        "$top/release/hidlog_recording.h"
+    echo "tests/c: C++ accepts the headers"
 else
-    echo "tests/c: the header was not tested with C++ (apt-get install g++)"
+    echo "tests/c: the headers were not tested with C++ (apt-get install g++)"
 fi
 if command -v musl-gcc >/dev/null; then
     build_programs musl-gcc -static "$top/release/libhidlog.a"

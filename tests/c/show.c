@@ -38,7 +38,8 @@ static uint8_t *show(const uint8_t *log, size_t size, enum form form, size_t out
         hidlog_show(log, size, form == EXPLAINED, out, out_cap, result);
     if (out[out_cap] != CANARY || result->written > out_cap || result->packet != 0 ||
         result->status > HIDLOG_LOG_ERROR) {
-        fprintf(stderr, "show: a call with capacity %zu wrote past the buffer, or reported a wrong length\n", out_cap);
+        fprintf(stderr, "show: a call with capacity %zu wrote past the buffer, or returned an invalid result\n",
+                out_cap);
         exit(2);
     }
     return out;

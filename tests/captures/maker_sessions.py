@@ -1,8 +1,8 @@
 """Simulated sessions of clients with security keys of known makers.
 
-A key's file in `makers` contains its getInfo response and its special behavior, written from CTAP 2.1 (or 2.0) and
-public source code. The functions in `CLIENTS` send the requests that Chromium, Firefox, libfido2, python-fido2, OpenSSH
-and Windows send. No packet was recorded.
+makers.json has each key's getInfo response and special behavior, written from CTAP 2.1 (or 2.0) and public source code.
+The functions in `CLIENTS` send the requests that Chromium, Firefox, libfido2, python-fido2, OpenSSH and Windows send. No
+packet was recorded.
 """
 
 from __future__ import annotations
@@ -29,7 +29,7 @@ OK, EXCLUDED, NO_CREDENTIALS, PIN_INVALID, CANCELLED = b"\0", b"\x19", b"\x2e", 
 NOT_SATISFIED, WRONG_DATA, SUCCESS = b"\x69\x85", b"\x6a\x80", b"\x90\0"
 HAS_CBOR, HAS_WINK = 4, 1
 KIND = "public-key"
-MAKERS = sorted(path.stem for path in (HERE / "makers").glob("*.json"))
+MAKERS = json.loads((HERE / "makers.json").read_text(encoding="utf-8"))
 
 
 class Key:
@@ -37,7 +37,7 @@ class Key:
 
     def __init__(self, maker: str, is_wrong: bool = False) -> None:
         self.is_wrong = is_wrong
-        self.traits = json.loads((HERE / "makers" / f"{maker}.json").read_text(encoding="utf-8"))
+        self.traits = MAKERS[maker]
         self.lines = [f"# {line}" for line in textwrap.wrap(self.traits["comment"], 100)]
         self.at = self.channel = self.nonces = self.counter = 0
         self.maker = keys.KeyMaker()

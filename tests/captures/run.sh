@@ -7,7 +7,7 @@ set -euo pipefail
 cd "$(dirname "${BASH_SOURCE[0]}")"
 python=/usr/bin/python3
 if ! "$python" -c 'import cryptography, fido2.server, pytest' 2>/dev/null || ! command -v tshark >/dev/null; then
-    echo "tests/captures/run.sh: python-fido2, pytest or tshark is missing (tests/run --install); nothing was run" >&2
+    echo "tests/captures/run.sh: python-fido2, cryptography, pytest or tshark is missing (tests/run --install); nothing was run" >&2
     exit 3
 fi
 export PYTHONPATH=$PWD/../../bindings/python/src:$PWD/../../conformance PYTHONDONTWRITEBYTECODE=1

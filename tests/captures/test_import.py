@@ -278,7 +278,7 @@ def test_a_message_that_no_packets_hold_is_left_out() -> None:
         (b"", "the capture is empty"),
         (b"> 0 00\n", "unrecognized text capture"),
         (b"\x7fELF\0\0", "unrecognized capture file"),
-        (b"\xd4\xc3\xb2\xa1\0\0", "ends in pcap's header"),
+        (b"\xd4\xc3\xb2\xa1\0\0", "ends within pcap's file header"),
         (encode_pcap([])[:20] + b"\x01\0\0\0" + bytes(32), "link type 1 (Ethernet)"),
         (encode_pcap([]), "no security key found in the capture"),
         (to_pcapng([[]]) + b"\6\0\0\0\3\0\0\0", "invalid at byte"),

@@ -66,7 +66,7 @@ def check_exit(ended: tuple[int, str], status: int, said: str) -> None:
 def check_refused(state: Path, said: str, user: int | None = None) -> None:
     """Checks that the bridge exits with status 1 and this message, and creates no device."""
     bridge = Bridge([UHID, str(state)], user=user)
-    assert not bridge.wait_until_plugged_in(), "it was plugged in"
+    assert not bridge.wait_until_plugged_in(), "the bridge created a device"
     check_exit(bridge.wait_until_exited(), 1, said)
 
 
@@ -154,7 +154,7 @@ def test_link_planted_meanwhile_is_not_overwritten(work_dir: Path) -> None:
     finally:
         is_over.set()
         lane.join(TIMEOUT_SECONDS)
-    check_exit(bridge.wait_until_exited(), 1, "nothing was saved, and the old file is kept: File exists")
+    check_exit(bridge.wait_until_exited(), 1, "nothing was saved, and the file is unchanged: File exists")
     assert other.read_bytes() == b"another's" and state.read_bytes() == old
 
 
@@ -168,7 +168,7 @@ def test_folder_at_temporary_path_is_reported(work_dir: Path) -> None:
         raise AssertionError(f"a response was sent: {bridge.register().hex()}")
     except EndedError:
         pass
-    check_exit(bridge.wait_until_exited(), 1, "key.state: nothing was saved, and the old file is kept: Is a directory")
+    check_exit(bridge.wait_until_exited(), 1, "key.state: nothing was saved, and the file is unchanged: Is a directory")
     assert state.read_bytes() == old
 
 
@@ -232,10 +232,10 @@ def test_second_bridge_waits(work_dir: Path) -> None:
     assert first.wait_until_plugged_in(), first.wait_until_exited()
     waits = "another program has locked the file; waiting until that program exits"
     second = Bridge([UHID, str(state)])
-    assert not second.wait_until_plugged_in(0.3), "both are plugged in"
+    assert not second.wait_until_plugged_in(0.3), "the second bridge created a device"
     check_exit(second.stop(signal.SIGINT), -signal.SIGINT, waits)
     third = Bridge([UHID, str(state)])
-    assert not third.wait_until_plugged_in(0.3), "both are plugged in"
+    assert not third.wait_until_plugged_in(0.3), "the second bridge created a device"
     check_exit(first.stop(), 0, "")
     assert third.wait_until_plugged_in(), third.wait_until_exited()
     check_exit(third.stop(), 0, waits)
@@ -271,7 +271,7 @@ def test_full_disk_keeps_state(work_dir: Path) -> None:
         raise AssertionError(f"a response was sent: {bridge.register().hex()}")
     except EndedError:
         pass
-    check_exit(bridge.wait_until_exited(), 1, "nothing was saved, and the old file is kept: File too large")
+    check_exit(bridge.wait_until_exited(), 1, "nothing was saved, and the file is unchanged: File too large")
     assert state.read_bytes() == old and not (work_dir / "key.state.new").exists()
 
 
@@ -366,11 +366,11 @@ def test_flood_starves_nobody(work_dir: Path) -> None:
     assert bridge.wait_until_plugged_in(), bridge.wait_until_exited()
     for name, packets in make_floods(bridge.allocate_channel(b"floods!!")).items():
         flood = Flood(bridge, packets)
-        assert flood.wait_until_started(), f"a flood of {name}: {flood.written} packets"
+        assert flood.wait_until_started(), f"a flood of {name} did not start: {flood.written} packets were written"
         began = flood.written
         try:
             answer = register_on_new_channel(bridge)
-            assert flood.wait_for_next_packet(), f"a flood of {name} ended after {flood.written} packets"
+            assert flood.wait_for_next_packet(), f"a flood of {name} stopped after {flood.written} packets"
         finally:
             written = flood.stop()
         print(f"a flood of {name}: another program got its response after {written - began:,} packets of {written:,}")

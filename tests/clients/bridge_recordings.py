@@ -33,7 +33,7 @@ def check_recording_refused(path: str, state: Path, said: str) -> None:
     """Checks that a bridge with a recording at this path exits with status 1 and this message, and creates no
     device."""
     bridge = Bridge([UHID, "-r", path, str(state)])
-    assert not bridge.wait_until_plugged_in(), "it was plugged in"
+    assert not bridge.wait_until_plugged_in(), "the bridge created a device"
     check_exit(bridge.wait_until_exited(), 1, said)
 
 

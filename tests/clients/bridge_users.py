@@ -112,7 +112,7 @@ def test_end_of_input_keeps_waiting(work_dir: Path) -> None:
         bridge.write(channel + request[4:])
     assert any(
         packet[:5] == channel + bytes([KEEPALIVE]) for packet in bridge.iter_packets(TIMEOUT_SECONDS)
-    ), "the key didn't ask"
+    ), "the key sent no KEEPALIVE"
     bridge.write(encode_packet(BROADCAST, INIT, b"another!"))
     assert any(packet[:5] == BROADCAST + bytes([INIT]) for packet in bridge.iter_packets(TIMEOUT_SECONDS))
     status, said = bridge.stop()

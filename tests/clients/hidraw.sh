@@ -3,7 +3,7 @@
 # machine, as /dev/hidrawN. The bridge simulates the touches, and hidraw_vm.sh unplugs and plugs in the key. Exits with
 # 3 if a dependency is missing. machine.sh starts the virtual machine, and documents its environment variables.
 #
-#     tests/clients/hidraw.sh            four cases with power cycles, one minute
+#     tests/clients/hidraw.sh            five cases with power cycles, one minute
 #     tests/clients/hidraw.sh all        all cases, a quarter of an hour; set HIDLOG_SECONDS=3600
 #     tests/clients/hidraw.sh ARGUMENT ..    arguments of run.py
 # shellcheck disable=SC1091,SC2154 # top, name, root, work and image are set by common.sh and machine.sh

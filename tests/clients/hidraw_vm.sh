@@ -40,9 +40,9 @@ for module in hid hid-generic uhid; do
     insmod "/modules/$module.ko" || echo "@@ FAILED insmod $module"
 done
 plug_in || echo "@@ FAILED there is no /dev/hidraw0"
-mkfifo said
-/usr/bin/nice -n -20 xargs python3 /conformance/run.py --device /dev/hidraw0 --touch --reset </words >report 2>said &
-player=$!
+mkfifo progress
+/usr/bin/nice -n -20 xargs python3 /conformance/run.py --device /dev/hidraw0 --touch --reset </words >report 2>progress &
+runner=$!
 times=0
 while read -r line; do
     case $line in
@@ -54,8 +54,8 @@ while read -r line; do
     "playing "*) ;;
     *) echo "$line" ;;
     esac
-done <said
-wait "$player" || echo "@@ FAILED run.py ended with $?"
+done <progress
+wait "$runner" || echo "@@ FAILED run.py ended with $?"
 grep -v '^skipped' report | sed 's/^/@@ /'
 grep '^skipped' report | sed 's/.*: //' | sort | uniq -c | sort -rn | sed 's/^/@@ skipped /'
 unplug

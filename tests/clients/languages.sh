@@ -1,6 +1,8 @@
 #!/usr/bin/env bash
-# Creates a key, sends INIT and prints the response from C, Go, Rust and C++; then tests the Go module and the Rust crates from
-# their packages, as in their READMEs. Skips, and lists, languages that are not installed.
+# Creates a key, sends INIT and prints the response from C, Go, Rust and C++; then tests the Go module and the Rust
+# crates from their packages, as in their READMEs. Skips, and lists, languages that are not installed. Downloads nothing.
+#
+#     tests/clients/languages.sh [arm64]      arm64: also build the Go module's tests for arm64 and run them in qemu
 # shellcheck disable=SC1091,SC2154 # top, name and library are set by common.sh
 set -euo pipefail
 source "$(dirname "${BASH_SOURCE[0]}")/common.sh"
@@ -11,21 +13,92 @@ trap 'rm -rf "$work"' EXIT
 # The expected data: the nonce, channel 1, protocol version 2, device version 1.0.0, capabilities CBOR and NMSG, and
 # zeros.
 expected=$(printf '%-128s' ffffffff860011010203040506070800000001020100000c | tr ' ' 0)
+machine=${1-}
 ran=0
 
 # Checks whether a language is installed; if not, lists the language as skipped: is_installed LANGUAGE COMMAND PACKAGE
 is_installed() {
-    command -v "$2" >/dev/null || { echo "$name: not run from $1 (apt-get install $3)" && false; }
+    command -v "$2" >/dev/null || { echo "$name: $1 is skipped, since $2 is missing (apt-get install $3)" && false; }
 }
 
 # Runs a program and compares its output: run_and_compare LANGUAGE VERSION PROGRAM ..
 run_and_compare() {
-    local answer
-    answer=$("${@:3}")
-    echo "$name: from $1 ($2): $answer"
-    [ "$answer" = "$expected" ] || fail "another answer; expected $expected"
+    local response
+    response=$("${@:3}")
+    echo "$name: from $1 ($2): $response"
+    [ "$response" = "$expected" ] || fail "$1: expected the response $expected, got $response"
     ran=$((ran + 1))
 }
+
+# Tests the Go module as bindings/go/README.md describes: creates a new module with the README's test, and installs the
+# package from a folder that serves as module proxy. Then runs the cases recorded from Chromium, the package's own tests,
+# and `go vet`: test_go_module PACKAGES FOLDER
+test_go_module() (
+    packages=$1 work=$2
+    # The README's commands; GONOSUMDB prevents queries to the checksum database.
+    export GOCACHE=$work/cache GOPATH=$work/path GOFLAGS="-p=2 -modcacherw" GONOSUMDB=cogtzil.example GOTOOLCHAIN=local CGO_ENABLED=1 GO111MODULE=on
+    export HIDLOG_PROGRAM=$top/release/hidlog
+    cd "$work"
+    cp "$packages"/hidlog-go-*.zip .
+    file=$(basename hidlog-go-*.zip .zip)
+    # Run the README's lines below "Install", with the version of the file.
+    sed -n '/^## Install/,/^## A test/s/^    //p' "$top/bindings/go/README.md" | grep -v '^go get' |
+        sed "s/0\.2\.0/${file#hidlog-go-}/g" >install.sh
+    # shellcheck disable=SC1091 # it is generated above
+    source install.sh
+    mkdir -p example && cd example
+    go mod init example 2>/dev/null
+    awk '/^```/ { n++; next } n == 1' "$top/bindings/go/README.md" >sign_in_test.go
+    go get "cogtzil.example/hidlog@v${file#hidlog-go-}" 2>/dev/null
+    go test -v ./... >"$work/output" 2>&1 || { cat "$work/output" && exit 1; }
+    grep -q 'send it to your service: {' "$work/output"
+    mkdir -p cases && cp "$top/tests/clients/cases/server.go" cases/main.go
+    go build -o "$work/cases" ./cases
+    "$top/tests/clients/browser_cases.py" go "$work/cases"
+    unformatted=$(gofmt -l "$top/bindings/go")
+    [ -z "$unformatted" ] || { echo "gofmt: $unformatted" && exit 1; }
+    (cd "$(go list -m -f '{{.Dir}}' cogtzil.example/hidlog)" && go vet . && go test -count=1 ./... | sed 's/^/Go module: /')
+    if [ "$machine" = arm64 ]; then
+        cd "$(go list -m -f '{{.Dir}}' cogtzil.example/hidlog)"
+        GOARCH=arm64 CC=aarch64-linux-gnu-gcc go test -count=1 -exec "qemu-aarch64-static -L /usr/aarch64-linux-gnu" ./... |
+            sed 's/^/Go module for arm64: /'
+    fi
+)
+
+# Tests the Rust crates as bindings/rust/hidlog/README.md describes: creates a new crate with the README's test, and
+# unpacks the packages beside it. Then runs the cases recorded from Chromium, the tests of the crate hidlog, with and
+# without OpenSSL, and clippy and rustfmt if they are installed: test_rust_crates PACKAGES FOLDER
+test_rust_crates() (
+    packages=$1 work=$2
+    export CARGO_TARGET_DIR=$work/target CARGO_NET_OFFLINE=true CARGO_BUILD_JOBS=2 HIDLOG_PROGRAM=$top/release/hidlog
+    cd "$work"
+    cp "$packages"/*.crate .
+    version=$(basename hidlog-sys-*.crate .crate)
+    sed -n '/^## Install/,/^## A test/s/^    //p' "$top/bindings/rust/hidlog/README.md" |
+        sed "s/0\.2\.0/${version#hidlog-sys-}/g; s/cargo new/& --quiet --vcs none/" >install.sh
+    # shellcheck disable=SC1091 # it is generated above
+    source install.sh
+    awk '/^```/ { n++; next } n == 1' "$top/bindings/rust/hidlog/README.md" >src/lib.rs
+    cargo test --quiet --offline -- --nocapture >"$work/output" 2>&1 || { cat "$work/output" && exit 1; }
+    grep -q 'send it to your service: {' "$work/output"
+    mkdir -p src/bin && cp "$top/tests/clients/cases/server.rs" src/bin/cases.rs
+    cargo build --quiet --offline --bin cases
+    "$top/tests/clients/browser_cases.py" rust "$CARGO_TARGET_DIR/debug/cases"
+    cd "$work/hidlog-${version#hidlog-sys-}"
+    for words in "" --no-default-features; do
+        # shellcheck disable=SC2086 # no word is no word
+        cargo test --offline $words >"$work/output" 2>&1 || { cat "$work/output" && exit 1; }
+        echo "Rust crate${words:+, $words}: $(grep -c '^test .* ok$' "$work/output") tests passed"
+    done
+    if cargo clippy --version >/dev/null 2>&1; then
+        # Debian 13's clippy warns about format! in an iterator; newer versions do not.
+        cargo clippy --quiet --offline --all-targets -- -D warnings -A unknown-lints -A clippy::format-collect
+    fi
+    if cargo fmt --version >/dev/null 2>&1; then
+        (cd "$top/bindings/rust/hidlog-sys" && cargo fmt --check) && (cd "$top/bindings/rust/hidlog" && cargo fmt --check)
+        rm -f "$top"/bindings/rust/*/Cargo.lock
+    fi
+)
 
 cd "$work"
 if is_installed Go go golang-go; then
@@ -49,9 +122,11 @@ fi
 if command -v dpkg-deb >/dev/null && /usr/bin/python3 -c 'import hatchling' 2>/dev/null; then
     "$top/packages/build.sh" "$work/packages" >/dev/null
     if is_installed "the Go module" go golang-go; then
-        "$top/tests/clients/go_module.sh" "$work/packages" "$work/go"
+        mkdir "$work/go"
+        test_go_module "$work/packages" "$work/go"
     fi
     if is_installed "the Rust crates" cargo cargo && { require_header openssl/evp.h libssl-dev; }; then
-        "$top/tests/clients/rust_crates.sh" "$work/packages" "$work/rust"
+        mkdir "$work/rust"
+        test_rust_crates "$work/packages" "$work/rust"
     fi
 fi

@@ -37,7 +37,7 @@ find_kernel() {
         [ -z "${HIDLOG_OFFLINE-}" ] || exit_skipped "no kernel with uhid is installed (tests/run --install)"
         package=$(apt-cache depends linux-image-amd64 2>/dev/null | sed -n 's/^ *Depends: //p' | head -1)
         (cd "$work" && apt-get download "${package:-linux-image-amd64}" && dpkg-deb -x "$package"_*.deb kernel) \
-            >"$work/said" 2>&1 || true
+            >"$work/output" 2>&1 || true
         select_kernel "$work/kernel" || exit_skipped "a kernel is missing (apt-get install linux-image-amd64)"
     fi
 }
@@ -99,10 +99,10 @@ boot_machine() {
     (cd "$root" && find . | cpio -o -H newc --quiet -R 0:0 | gzip -1) >"$work/initramfs"
     timeout "$1" qemu-system-x86_64 "${machine[@]}" -kernel "$image" -initrd "$work/initramfs" \
         -append "console=ttyS0 quiet panic=-1 no_timer_check" </dev/null >"$work/console" 2>&1 ||
-        { tail -40 "$work/console" && fail "the machine didn't end by itself"; }
+        { tail -40 "$work/console" && fail "qemu failed, or the virtual machine did not power off within $1 s"; }
     tr -d '\r' <"$work/console" | sed -n "s,^@@ ,$name: ,p"
     if grep -q '^@@ FAILED' "$work/console" || ! grep -q '^@@ end' "$work/console"; then
         tr -d '\r' <"$work/console" | tail -80
-        fail "a case failed, or the machine ended early"
+        fail "a case failed, or the virtual machine stopped before the last case"
     fi
 }

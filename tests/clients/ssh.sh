@@ -44,18 +44,18 @@ unset SSH_AUTH_SOCK SSH_ASKPASS DISPLAY
 
 # Runs a command that must succeed: expect_success TEXT COMMAND ..
 expect_success() {
-    "${@:2}" >said 2>&1 </dev/null || { cat said && fail "$1: failed with $?"; }
-    echo "$name: $1: $(tail -1 said)"
+    "${@:2}" >output 2>&1 </dev/null || { cat output && fail "$1: failed with status $?"; }
+    echo "$name: $1: $(tail -1 output)"
 }
 
 # Runs a command that must fail with a message: expect_failure TEXT MESSAGE COMMAND ..
 expect_failure() {
-    if "${@:3}" >said 2>&1 </dev/null; then
-        cat said
-        fail "$1: not refused"
+    if "${@:3}" >output 2>&1 </dev/null; then
+        cat output
+        fail "$1: expected a failure"
     fi
-    grep -q "$2" said || { cat said && fail "$1: refused with other words than: $2"; }
-    echo "$name: $1: $(grep "$2" said | tail -1)"
+    grep -q "$2" output || { cat output && fail "$1: expected the message: $2"; }
+    echo "$name: $1: $(grep "$2" output | tail -1)"
 }
 
 # Generates a key with ssh-keygen: generate_key FILE OPTIONS ..
@@ -112,7 +112,7 @@ echo "no-touch-required $(cat untouched.pub)" >>authorized
 expect_success "ssh signs in" sign_in first
 expect_success "ssh signs in again" sign_in first
 expect_success "ssh signs in without a touch" sign_in untouched
-expect_failure "ssh while the user says no" "Permission denied" env HIDLOG_SK_PRESENCE=denied bash -c "$(declare -f sign_in)
+expect_failure "ssh, if the user denies" "Permission denied" env HIDLOG_SK_PRESENCE=denied bash -c "$(declare -f sign_in)
     port=$port work=$work; sign_in first"
 expect_failure "ssh with a key that the server doesn't know" "Permission denied" sign_in resident
 mv key.state elsewhere
@@ -121,11 +121,11 @@ mv elsewhere key.state
 mkdir downloaded && cd downloaded
 expect_success "ssh-keygen -K" bash -c "echo | ssh-keygen -q -K -N '' && ls id_*rk.pub"
 cd ..
-[ "$(cut -d' ' -f2 downloaded/id_ecdsa_sk_rk.pub)" = "$(cut -d' ' -f2 resident.pub)" ] || fail "-K gave another key"
+[ "$(cut -d' ' -f2 downloaded/id_ecdsa_sk_rk.pub)" = "$(cut -d' ' -f2 resident.pub)" ] || fail "ssh-keygen -K downloaded another key"
 cut -d' ' -f1,2 resident.pub >>authorized
-expect_success "ssh signs in with the key that -K gave" sign_in downloaded/id_ecdsa_sk_rk
+expect_success "ssh signs in with the downloaded key" sign_in downloaded/id_ecdsa_sk_rk
 echo "$name: the server: $(grep -c 'Accepted publickey .* ECDSA-SK' server.log) sign-ins by ECDSA-SK"
-[ "$(grep -c 'Accepted publickey .* ECDSA-SK' server.log)" = 4 ] || fail "the server saw another number of sign-ins"
+[ "$(grep -c 'Accepted publickey .* ECDSA-SK' server.log)" = 4 ] || fail "expected 4 sign-ins by ECDSA-SK at the server"
 
 echo "a text" >text
 echo "hidlog $(cat first.pub)" >signers

@@ -1,10 +1,10 @@
 #!/usr/bin/env bash
 # Installs the Debian package hidlog-uhid in a new Debian system, and boots the system in a virtual machine with systemd
 # and udev. There libfido2's tools, OpenSSH and unmodified browsers use the key; the cases are in uhid_package_vm.sh.
-# Takes 15 minutes with software emulation. Needs root, debootstrap and its mirror, e2fsprogs, qemu-system-x86 and
+# Takes 15 minutes with software emulation. Needs root, debootstrap, a Debian mirror, e2fsprogs, qemu-system-x86 and
 # busybox-static. Exits with 3 if a dependency is missing.
 #
-#     tests/clients/uhid_package.sh FOLDER [PACKAGES]    FOLDER is reused; PACKAGES: default: built here
+#     tests/clients/uhid_package.sh FOLDER [PACKAGES]    FOLDER is reused; PACKAGES [default: built]
 #     HIDLOG_CASES="package firefox chromium"            the cases [default: all except chromium, which is too slow]
 # shellcheck disable=SC1091,SC2154 # top, name, work and image are set by common.sh and machine.sh
 set -euo pipefail
@@ -12,7 +12,7 @@ source "$(dirname "${BASH_SOURCE[0]}")/common.sh"
 folder=${1:?"usage: tests/clients/uhid_package.sh FOLDER [PACKAGES]"}
 source "$(dirname "${BASH_SOURCE[0]}")/machine.sh"
 require_commands debootstrap debootstrap mke2fs e2fsprogs
-[ "$(id -u)" = 0 ] || exit_skipped "root is needed for a folder of debootstrap"
+[ "$(id -u)" = 0 ] || exit_skipped "debootstrap needs root"
 mkdir -p "$folder"
 folder=$(cd "$folder" && pwd)
 packages=${2-}
@@ -26,12 +26,12 @@ system=$folder/root
 # Runs commands in the new system by chroot: run_in_system COMMANDS
 run_in_system() {
     chroot "$system" /usr/bin/env -i PATH=/usr/sbin:/usr/bin:/sbin:/bin LANG=C.UTF-8 DEBIAN_FRONTEND=noninteractive \
-        bash -euc "$1" >"$folder/inside.log" 2>&1 || { tail -20 "$folder/inside.log" && fail "in the system: $1"; }
+        bash -euc "$1" >"$folder/inside.log" 2>&1 || { tail -20 "$folder/inside.log" && fail "this failed in the system: $1"; }
 }
 
 if [ ! -e "$system/.whole" ]; then
     rm -rf "$system"
-    debootstrap --variant=minbase bookworm "$system" >"$folder/debootstrap.log" || exit_skipped "Debian isn't reached"
+    debootstrap --variant=minbase bookworm "$system" >"$folder/debootstrap.log" || exit_skipped "debootstrap failed (see $folder/debootstrap.log)"
     echo "deb http://deb.debian.org/debian-security bookworm-security main" >>"$system/etc/apt/sources.list"
     run_in_system 'apt-get -qq update && apt-get -qq install -y --no-install-recommends systemd systemd-sysv udev dbus kmod \
         openssh-client fido2-tools chromium firefox-esr python3-cryptography'
@@ -97,5 +97,5 @@ tr -d '\r' <"$folder/console" | sed -n "s,^@@ ,$name: ,p"
 rm -f "$folder/disk"
 if grep -q '^@@ FAILED' "$folder/console" || ! grep -q '^@@ end' "$folder/console"; then
     tr -d '\r' <"$folder/console" | tail -150
-    fail "a case failed, or the machine ended early"
+    fail "a case failed, or the virtual machine stopped before the last case"
 fi

@@ -124,21 +124,21 @@ touch out && chown tester /home/tester /home/tester/*
 # Runs the cases that need no browser.
 run_package_cases() {
     expect_success "systemctl start hidlog-uhid@alice, of the package" start_service alice
-    expect_success "udev hands the device to the group plugdev" is_owned_by_plugdev
+    expect_success "udev gives the device to the group plugdev" is_owned_by_plugdev
     expect_success "fido2-token -L, as a user" is_listed
-    expect_success "fido2-cred register" register
+    expect_success "fido2-cred registers" register
     expect_success "fido2-assert signs in" sign_in
     expect_success "ssh-keygen -t ecdsa-sk, -Y sign and -Y verify" sign_with_ssh
     expect_success "systemctl stop" stop_service alice
-    expect_success "the recording is as the program plays it" check_recording alice
+    expect_success "hidlog check of the recording" check_recording alice
     expect_success "systemctl start again" start_service alice
-    expect_success "fido2-assert signs in with the credential of before" sign_in
+    expect_success "fido2-assert signs in with the earlier credential" sign_in
     expect_success "systemctl stop again" stop_service alice
     expect_success "the service runs as its own user, without a capability" check_confinement
-    expect_success "it goes on with the state of a version that ran as root" start_with_root_files
-    expect_success "the second recording begins with a snapshot" check_recording alice
-    expect_success "--presence script denies once, as a user sees" run_presence_script
-    expect_success "its recording" check_recording bob
+    expect_success "the service takes over the files of a version that ran as root" start_with_root_files
+    expect_success "hidlog check of the second recording, which begins with a snapshot" check_recording alice
+    expect_success "--presence script denies the first touch" run_presence_script
+    expect_success "hidlog check of that recording" check_recording bob
     expect_success "--presence ask" touch_on_terminal
 }
 
@@ -151,6 +151,6 @@ for browser in "${parts[@]}"; do
     [ ! -e versions ] || sed 's/^/@@ /' versions
 done
 stop_service carol
-[ "${parts[*]}" = package ] || expect_success "the recording of the browsers" check_recording carol
+[ "${parts[*]}" = package ] || expect_success "hidlog check of the recording with browsers" check_recording carol
 echo "@@ end after $(cut -d' ' -f1 /proc/uptime) s"
 systemctl poweroff

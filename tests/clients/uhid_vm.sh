@@ -150,7 +150,8 @@ run_with_touch() {
     wait_until is_waiting && touch_key && wait "$first"
 }
 
-# Checks whether the last request for a touch timed out after 30 s, as may happen on a busy machine.
+# Checks whether the last request for a touch timed out: after 30 s, as may happen on a busy machine, or when the last
+# program closed the device.
 has_timed_out() {
     grep '^p ' second.log | tail -1 | grep -q 'timeout$'
 }
@@ -259,19 +260,19 @@ run_as_nobody() {
 }
 
 run_all() {
-    expect_success "the modules of the kernel $(uname -r)" insmod /modules/hid.ko
-    expect_success "hid-generic" insmod /modules/hid-generic.ko
+    expect_success "the module hid of the kernel $(uname -r)" insmod /modules/hid.ko
+    expect_success "the module hid-generic" insmod /modules/hid-generic.ko
     expect_failure "a machine without /dev/uhid" "modprobe uhid" uhid key.state
-    expect_success "uhid" insmod /modules/uhid.ko
-    expect_failure "a user without a right to /dev/uhid" "run it as root" run_as_nobody uhid /tmp/key.state
-    expect_success "the device is found by fido2-token -L" plug_in first.log
+    expect_success "the module uhid" insmod /modules/uhid.ko
+    expect_failure "a user without access to /dev/uhid" "run it as root" run_as_nobody uhid /tmp/key.state
+    expect_success "fido2-token -L finds the device" plug_in first.log
     expect_success "fido2-token -I" fido2-token -I "$device"
     expect_success "fido2-cred registers alice, discoverable" register alice -r
     expect_success "fido2-assert signs in" sign_in alice
-    expect_success "fido2-assert signs in again, the counter one higher" sign_in_and_check_counter
+    expect_success "fido2-assert signs in again, and the counter increases by one" sign_in_and_check_counter
     expect_success "fido2-cred registers bob" register bob
     expect_success "fido2-assert signs in as bob" sign_in bob
-    expect_failure "fido2-cred of EdDSA" UNSUPPORTED_ALGORITHM fido2-cred -M -i bob.in "$device" eddsa
+    expect_failure "fido2-cred with EdDSA" UNSUPPORTED_ALGORITHM fido2-cred -M -i bob.in "$device" eddsa
     expect_failure "fido2-cred -u, by U2F" fido_dev_make_cred fido2-cred -M -u -i bob.in "$device"
     expect_success "ssh-keygen -t ecdsa-sk" create_ssh_key
     expect_success "ssh-keygen -Y sign" ssh-keygen -Y sign -f id -n file text
@@ -287,20 +288,20 @@ run_all() {
         expect_success "pamu2fcfg registers, or refuses an attestation without a certificate, as before 1.3" configure_pam
     fi
     sign_in alice >/dev/null 2>&1
-    expect_success "unplugged: the bridge ends, the device goes" unplug TERM
-    expect_success "plugged in again, with a user who is asked" plug_in second.log -p ask
-    expect_success "fido2-assert signs in after it, the counter one higher" run_with_touch sign_in_and_check_counter
+    expect_success "unplugged: the bridge exits, and the device disappears" unplug TERM
+    expect_success "plugged in again, with -p ask" plug_in second.log -p ask
+    expect_success "fido2-assert signs in after that, and the counter increases by one" run_with_touch sign_in_and_check_counter
     expect_success "two programs: libfido2's second one waits for the first" run_before_touch request_info_concurrently
-    expect_success "two programs without a lock: the second one is told that the key is busy" run_before_touch send_without_lock
+    expect_success "two programs without a lock: the second one gets ERR_CHANNEL_BUSY" run_before_touch send_without_lock
     expect_success "two programs take turns" request_info_from_two_programs
     expect_success "a program killed while it registers: the next one is served at once" kill_waiting_client
-    expect_success "fido2-assert signs in after it" run_with_touch sign_in alice
+    expect_success "fido2-assert signs in after that" run_with_touch sign_in alice
     kill -9 "$bridge"
     wait_until is_unplugged
     expect_success "plugged in again after the bridge was killed" plug_in third.log
-    expect_success "fido2-assert signs in after it, the counter one higher" sign_in_and_check_counter
+    expect_success "fido2-assert signs in after that, and the counter increases by one" sign_in_and_check_counter
     expect_success "unplugged by an interrupt" unplug INT
-    expect_success "a bridge of another user, which was handed /dev/uhid open" run_without_root
+    expect_success "a bridge of another user, which inherits a descriptor of /dev/uhid" run_without_root
     for log in first second third; do
         [ "$log" = first ] || load="--load $log.log.snapshot"
         # shellcheck disable=SC2086 # an option and its word

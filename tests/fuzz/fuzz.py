@@ -18,7 +18,7 @@ from functools import partial
 
 sys.dont_write_bytecode = True
 
-import executors
+import runner
 from malformed_requests import hostile_log, hostile_snapshot
 from judge import COUNTS_LINE, FindingError, check_saved, judge, split_lines
 
@@ -95,7 +95,7 @@ def main():
     if options.only is not None:
         print(f"the log is {save_log(options, options.only)}")
     began, totals, findings = time.monotonic(), [0] * 9, 0
-    with executors.make_runner(options.executor, options.jobs) as played:
+    with runner.make_runner(options.executor, options.jobs) as played:
         tasks = ((program, options.seed, number) for number in numbers)
         for number, finding, counts in played(run_log, tasks):
             if finding:

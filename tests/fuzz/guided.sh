@@ -78,9 +78,9 @@ run_libfuzzer() {
         "${@:3}" -lm
     mkdir -p "$found/$name" "$work/seeds/$name"
     "$work/$name" -max_total_time="$seconds" -max_len="$longest" -artifact_prefix="$found/$name/finding_" \
-        "$found/$name" "$work/seeds/$name" >"$work/said" 2>&1 ||
-        { tail -40 "$work/said" && return 1; }
-    echo "$name: $(sed -n 's/^Done //p' "$work/said"), $(grep -o 'cov: [0-9]* ft: [0-9]*' "$work/said" | tail -1)"
+        "$found/$name" "$work/seeds/$name" >"$work/output" 2>&1 ||
+        { tail -40 "$work/output" && return 1; }
+    echo "$name: $(sed -n 's/^Done //p' "$work/output"), $(grep -o 'cov: [0-9]* ft: [0-9]*' "$work/output" | tail -1)"
 }
 
 run_fuzzer() {

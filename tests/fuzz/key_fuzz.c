@@ -23,7 +23,7 @@ struct bytes {
     size_t left;
 };
 
-// Copies the next bytes of the data to `to`; zeros after the end of the data.
+// Copies the next bytes of the data to `to`, and zeros after the end of the data.
 static void take_bytes(struct bytes *from, uint8_t *to, size_t len) {
     size_t there = from->left < len ? from->left : len;
     memset(to, 0, len);
@@ -157,7 +157,7 @@ static void write_packets(struct hidlog_key *key, int32_t waiting) {
     }
 }
 
-// Checks that the need, the credentials and the statistics have values that hidlog.h allows.
+// Checks that the need, the number of credentials and the credentials have values that hidlog.h allows.
 static void check_key(struct hidlog_key *key) {
     struct hidlog_need need;
     struct hidlog_credential credential;
@@ -179,15 +179,15 @@ static void check_key(struct hidlog_key *key) {
 static void check_replay(struct hidlog_key *key) {
     struct hidlog_stats m;
     char text[200];
-    struct hidlog_result outcome;
+    struct hidlog_result result;
     hidlog_key_get_stats(key, &m);
     snprintf(text, sizeof text,
              "= held %" PRIu32 " rows %" PRIu32 " pending %" PRIu32 " requests %" PRIu64 " bytes %" PRIu64 " steps %" PRIu64
              "\n",
              m.peak_message_bytes, m.peak_credentials, m.peak_pending, m.requests, m.bytes, m.steps);
     append_text(written, &written_len, text);
-    hidlog_replay((const uint8_t *)log_text, log_len, (const uint8_t *)"", 0, (uint8_t *)replayed, TEXT, &outcome);
-    if (outcome.status != 0 || outcome.written != written_len || memcmp(replayed, written, written_len) != 0) {
+    hidlog_replay((const uint8_t *)log_text, log_len, (const uint8_t *)"", 0, (uint8_t *)replayed, TEXT, &result);
+    if (result.status != 0 || result.written != written_len || memcmp(replayed, written, written_len) != 0) {
         abort();
     }
 }

@@ -1,6 +1,6 @@
 // A libFuzzer target for the commands on a log, which is the data. The output of `replay` and `live` is a log that is
-// replayed unchanged and passes `check`. The output of `show`, explained or not, has no control characters.
-// tests/fuzz/guided.sh builds it.
+// replayed unchanged and passes `check`. The output of `show`, explained or not, has no control characters except
+// newlines. tests/fuzz/guided.sh builds it.
 #include "hidlog.h"
 
 #include <stdlib.h>

@@ -1,6 +1,6 @@
-// Implements hidlog.h with release/hidlog.wasm, translated to C by wasm2c, so that libFuzzer can instrument the core.
-// The caller's buffers are copied into the module's memory and back. The guard bytes after what the core writes must
-// stay unchanged.
+// Implements the functions of hidlog.h that the fuzz targets call with release/hidlog.wasm, translated to C by wasm2c,
+// so that libFuzzer can instrument the core. The caller's buffers are copied into the module's memory and back. The
+// guard bytes after what the core writes must stay unchanged.
 #include "hidlog.h"
 #include "module.h"
 
@@ -46,7 +46,7 @@ static void start_module(void) {
     result_at = write_at + MAX_WRITE + GUARD;
     u64 pages = result_at / PAGE + 2, there = module.w2c_memory.pages;
     if (pages > there && wasm_rt_grow_memory(&module.w2c_memory, pages - there) == (u32)-1) {
-        fail("no memory");
+        fail("not enough memory for the module");
     }
 }
 

@@ -30,7 +30,7 @@ from typing import Any, Iterator, Optional
 sys.dont_write_bytecode = True
 
 from framing import BROADCAST, split_into_packets
-from oracle_runner import check_logs
+from runner import check_logs
 from other_key import ASSERT, CANCEL, CBOR, ENDS_BY_OTHER_MESSAGE, INFO, INIT, MAKE, MSG, PING, SILENT, TOUCHED
 from other_key import UNANSWERED_ENDS, WINK, Key, Log, Message
 

@@ -3,7 +3,7 @@
 //
 //     node tests/fuzz/page_state.mjs [SECONDS [SEED]]    default: 10 seconds
 //
-// Exits with 1 on a finding that is not in the table of known findings.
+// Exits with 1 on a finding that is not in the table of known findings, or if a known finding no longer occurs.
 import { Session } from "node:inspector/promises";
 import { SecurityKey } from "../../bindings/web/dist/security_key.mjs";
 
@@ -21,7 +21,7 @@ const REPLACEMENT_VALUES = [
 const [seconds = 10, seed = Math.floor(Math.random() * 2 ** 32)] = process.argv.slice(2).map(Number);
 let drawn = seed;
 
-/** Returns random numbers below a bound, from a seed (mulberry32). */
+/** Returns the next random number below a bound, generated from the seed (mulberry32). */
 const random = (bound) => {
     drawn = (drawn + 0x6d2b79f5) | 0;
     let mixed = Math.imul(drawn ^ (drawn >>> 15), 1 | drawn);
@@ -31,7 +31,7 @@ const random = (bound) => {
 
 const choose = (listed) => listed[random(listed.length)];
 
-/** Returns each position in a value as its container and its key. */
+/** Returns the positions in a value, each as its container and its key. */
 const listPositions = (value, found = []) => {
     for (const name of Object.keys(value)) {
         found.push([value, name]);

@@ -17,7 +17,7 @@ static void close_state(void) {
 // Checks that each credential of a valid file has a private key and an application.
 static void check_credentials(void) {
     struct hidlog_credential credential;
-    for (size_t place = 0; hidlog_key_get_credential(&state.vkey.key, place, &credential) == 0; place++) {
+    for (size_t i = 0; hidlog_key_get_credential(&state.vkey.key, i, &credential) == 0; i++) {
         const char *application = state_application(&state, credential.id);
         if (application == NULL || strlen(application) >= APPLICATION ||
             software_keys_find(&state.vkey.keys, credential.id) == NULL) {

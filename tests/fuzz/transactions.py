@@ -27,7 +27,7 @@ sys.path.insert(0, os.path.join(TOP, "conformance"))
 from framing import BROADCAST, KEEPALIVE_MS, MAX_MESSAGE_BYTES, read_continuation_data, read_initialization_data
 from hidlog_conformance import ctap_cbor
 from malformed_requests import MAKE, RESET, LogGenerator, encode
-from oracle_runner import check_logs
+from runner import check_logs
 
 PING, INIT, CBOR, CANCEL, KEEPALIVE, ERROR = 0x01, 0x06, 0x10, 0x11, 0x3B, 0x3F
 STATUS_CREDENTIAL_EXCLUDED = 0x19

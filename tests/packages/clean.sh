@@ -39,11 +39,11 @@ run_in_clean_system() {
     mount -t proc proc "$system/proc"
     chroot "$system" /usr/bin/env -i PATH=/usr/sbin:/usr/bin:/sbin:/bin HOME=/root LANG=C.UTF-8 \
         DEBIAN_FRONTEND=noninteractive bash -euo pipefail -c "$start
-$2" >"$scratch/said" 2>&1 </dev/null && status=ok || status=FAILED
+$2" >"$scratch/output" 2>&1 </dev/null && status=ok || status=FAILED
     umount -l "$system/proc" "$system/dev"
-    echo "$status $1, $((SECONDS - began)) s: $(tail -1 "$scratch/said")"
+    echo "$status $1, $((SECONDS - began)) s: $(tail -1 "$scratch/output")"
     if [ "$status" = FAILED ]; then
-        tail -25 "$scratch/said" | sed 's/^/    /'
+        tail -25 "$scratch/output" | sed 's/^/    /'
         failed=1
     fi
 }
@@ -81,7 +81,7 @@ apt-get install $debs /packages/python3-hidlog_${version}_amd64.deb ruby openjdk
 run_readme /usr/share/doc/python3-hidlog/README.md 'Ruby, Java, Go, Perl, PHP' | tee out
 [ \"\$(grep -c '^ok\$' out)\" = 2 ] && tail -1 out"
 run_in_clean_system "the command, with python3-hidlog and without" "apt-get install $debs
-! hidlog mermaid /usr/share/doc/hidlog/examples/sign_in.log 2>said && cat said
+! hidlog mermaid /usr/share/doc/hidlog/examples/sign_in.log 2>message && cat message
 hidlog --help >help
 apt-get install /packages/python3-hidlog_${version}_amd64.deb
 cd /usr/share/doc/hidlog && hidlog check examples/sign_in.log

@@ -22,7 +22,7 @@ static void fail(const char *what) {
 static void *allocate(size_t len) {
     void *memory = malloc(len + 1);
     if (memory == NULL) {
-        fail("no memory");
+        fail("out of memory");
     }
     return memory;
 }
@@ -101,7 +101,7 @@ int main(void) {
                                            "explain", "transactions", "loaded_replay", "loaded_check"};
     struct record snapshot, log;
     if (!read_record(&snapshot)) {
-        fail("no snapshot");
+        fail("standard input does not begin with a snapshot");
     }
     while (read_record(&log)) {
         size_t out_cap = 20 * log.len + 200000;

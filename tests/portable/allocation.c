@@ -57,7 +57,7 @@ static void test_refused_allocation(struct hidlog_key *key) {
     is_refused = 0;
     release_instance(taken[0]);
     expect(hidlog_key_queued_packets(key), 0, "packets after a refused one");
-    expect(hidlog_key_write_packet(key, 1, packet), 1, "packets after one");
+    expect(hidlog_key_write_packet(key, 1, packet), 1, "packets after the next packet");
     hidlog_check(log, sizeof log - 1, log, 0, out, sizeof out, &result);
     expect(result.status, HIDLOG_OK, "a check's status");
 }

@@ -1,7 +1,7 @@
 #!/usr/bin/env bash
 # Installs the Python package from its sdist into an empty environment, as on a system without a wheel, so that the
-# portable C library is compiled. Then checks a log and signs in with the package. Last, prints the processor time of pip
-# on one core.
+# portable C library is compiled. Then checks a log and signs in with the package. At the end, prints pip's processor
+# time.
 #
 # Needs python3-hatchling, python3-venv, python3-cryptography, gcc and wabt; exits with 3 if one is missing.
 set -euo pipefail
@@ -21,8 +21,8 @@ unset PYTHONPATH HIDLOG_PROGRAM HIDLOG_LIBRARY HIDLOG_PORTABLE
 TIMEFORMAT="%U %S"
 { time HIDLOG_PROCESSOR=portable "$work/venv/bin/pip" install --quiet --no-index --no-deps --no-build-isolation \
     "$work"/hidlog-*.tar.gz; } 2>"$work/time" || { cat "$work/time" >&2 && exit 1; }
-said=$("$work/venv/bin/hidlog" check "$top/examples/sign_in.log")
-[ "$said" = "same 14 inputs 22 packets" ] || { echo "FAILED: check writes $said" && exit 1; }
+result=$("$work/venv/bin/hidlog" check "$top/examples/sign_in.log")
+[ "$result" = "same 14 inputs 22 packets" ] || { echo "FAILED: expected hidlog check to print 'same 14 inputs 22 packets', not '$result'" && exit 1; }
 cd "$work"
 "$work/venv/bin/python" - "$top/release/libhidlog.so.1" <<'PYTHON'
 import sys
@@ -32,7 +32,7 @@ import hidlog
 from hidlog.webauthn_json import b64url_encode
 
 library = Path(hidlog.__file__).with_name("libhidlog.so.1").read_bytes()
-assert library != Path(sys.argv[1]).read_bytes(), "the library is the proved one, not compiled here"
+assert library != Path(sys.argv[1]).read_bytes(), "the installed library is the proved one: it was not compiled"
 options = {
     "rp": {"name": "Example"}, "challenge": b64url_encode(bytes(32)), "user": {"id": "AQ", "name": "a", "displayName": "A"},
     "pubKeyCredParams": [{"type": "public-key", "alg": -7}], "authenticatorSelection": {"residentKey": "required"},

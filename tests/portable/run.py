@@ -64,6 +64,37 @@ TARGETS = {
     "i386": Target(["i686-linux-gnu-gcc", "-O1"], runner=["qemu-i386-static"]),
     "windows": Target(["x86_64-w64-mingw32-gcc", "-O2", *WINDOWS_C11], runner=["/usr/lib/wine/wine64"], suffix=".exe"),
 }
+# Sets the standard streams of a test program to binary mode on Windows. Other systems have no text mode.
+BINARY_STREAMS = """\
+#include <fcntl.h>
+#include <io.h>
+
+__attribute__((constructor)) static void make_streams_binary(void) {
+    for (int stream = 0; stream <= 2; stream++) {
+        _setmode(stream, _O_BINARY);
+    }
+}
+"""
+# The declarations that hidlog.c uses, by header, for systems whose headers are not installed.
+HEADERS = {
+    "stdio.h": """\
+typedef struct file FILE;
+extern FILE *stderr;
+int fputs(const char *text, FILE *file);
+""",
+    "stdlib.h": """\
+#include <stddef.h>
+void *calloc(size_t count, size_t size);
+void free(void *memory);
+_Noreturn void abort(void);
+""",
+    "string.h": """\
+#include <stddef.h>
+void *memcpy(void *to, const void *from, size_t len);
+void *memmove(void *to, const void *from, size_t len);
+void *memset(void *memory, int value, size_t len);
+""",
+}
 # Systems for which clang checks the syntax, without their headers.
 CHECKED_TARGETS = (
     "arm64-apple-macos13",
@@ -179,7 +210,7 @@ class Builder:
     def __init__(self, target: Target, sources: Path, folder: Path):
         if target.suffix == ".exe":
             streams = folder / "binary_streams.o"
-            run([*target.compiler, "-c", "-o", streams, HERE / "binary_streams.c"])
+            run([*target.compiler, "-c", "-o", streams, "-xc", "-"], BINARY_STREAMS.encode())
             target = target._replace(linked=[*target.linked, str(streams)])
         self.target, self.sources, self.folder = target, sources, folder
         self.library = folder / "hidlog.o"
@@ -288,9 +319,12 @@ def test_size(sources: Path) -> None:
 def test_syntax(sources: Path) -> None:
     """clang reports no warnings, except about padding and C89, for systems whose programs cannot run here."""
     words = ["clang", "-std=c11", "-ffreestanding", "-fsyntax-only", "-Weverything", "-Werror"]
-    words += ["-Wno-padded", "-Wno-declaration-after-statement", "-isystem", str(HERE / "headers")]
-    for target in CHECKED_TARGETS:
-        run([*words, "-target", target, sources / "hidlog.c"])
+    words += ["-Wno-padded", "-Wno-declaration-after-statement"]
+    with tempfile.TemporaryDirectory() as headers:
+        for name, text in HEADERS.items():
+            Path(headers, name).write_text(text, encoding="ascii")
+        for target in CHECKED_TARGETS:
+            run([*words, "-isystem", headers, "-target", target, sources / "hidlog.c"])
     print(f"clang: no warning for {', '.join(CHECKED_TARGETS)}", flush=True)
 
 

@@ -104,7 +104,7 @@ def check_saved(work_dir: Path, old: bytes, case: str, new: bytes) -> None:
     assert (work_dir / "new").read_bytes() == wanted, f"{case}\nsaved {(work_dir / 'new').read_bytes().hex()}"
     (work_dir / "old").write_bytes(wanted)
     Case("0 hidlog replay --save=new --load=old\n+= held 0 rows 1 pending 0 requests 0 bytes 0 steps 0").run(work_dir)
-    assert (work_dir / "new").read_bytes() == wanted, f"{case}\nisn't saved as it was loaded"
+    assert (work_dir / "new").read_bytes() == wanted, f"{case}\nchanges the snapshot by loading and saving it"
 
 
 def read_cases(file: Path) -> list[Case]:
@@ -122,7 +122,7 @@ def test_cases_of_file(work_dir: Path) -> None:
 def test_log_outputs(work_dir: Path) -> None:
     """Tests the output of each command for the logs in the folder logs."""
     files = sorted((HERE / "logs").glob("*.txt"))
-    assert len(files) == 11, f"there are {len(files)} files of cases"
+    assert len(files) == 11, f"expected 11 files of cases, got {len(files)}"
     for file in files:
         for case in read_cases(file):
             case.run(work_dir)
@@ -167,7 +167,9 @@ def test_nothing_is_saved_after_error(work_dir: Path) -> None:
     """An error in the log leaves the file of --save unchanged."""
     said = "?hidlog: line 2: not a log line"
     Case(f"1 hidlog replay --save new\n|t 5\n-t 05\n{said}").run(work_dir)
-    assert not (work_dir / "new").exists() or (work_dir / "new").read_bytes() == b"", "something was saved"
+    assert (
+        not (work_dir / "new").exists() or (work_dir / "new").read_bytes() == b""
+    ), "the file of --save was written despite the error"
 
 
 def test_arguments_are_utf_8(work_dir: Path) -> None:

@@ -170,7 +170,7 @@ def count_calls(log: Path) -> Tuple[Dict[str, int], Dict[str, int], Dict[str, in
 def list_faults(log: Path) -> List[InjectedFault]:
     """Returns the faults for the calls after the mark in a run, and for those of processes and threads that it starts."""
     base, own, others = count_calls(log)
-    assert base, "the mark is missing"
+    assert base, "the trace has no mark"
     found = []
     for name in sorted({*own, *others} - injection.NEVER_INJECTED - NEVER_FAILS):
         numbers = {*range(base.get(name, 0) + 1, own.get(name, 0) + 2), *range(1, others.get(name, 0) + 1)}

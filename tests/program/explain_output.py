@@ -22,9 +22,9 @@ def pad_packet(digits: str) -> str:
 def check_beginnings(said: bytes, wanted: Sequence[str]) -> None:
     """Fails unless there are as many lines as expected, each with the expected beginning."""
     lines = said.decode().splitlines()
-    assert len(lines) == len(wanted), f"{len(lines)} lines and not {len(wanted)}:\n{said.decode()}"
+    assert len(lines) == len(wanted), f"expected {len(wanted)} lines, got {len(lines)}:\n{said.decode()}"
     for line, front in zip(lines, wanted):
-        assert line.startswith(front), f"{line!r} and not {front!r}"
+        assert line.startswith(front), f"expected a line that starts with {front!r}, got {line!r}"
 
 
 def format_hex_row(line: str, start: int) -> str:

@@ -76,7 +76,7 @@ class LiveResult:
         """Fails unless at most `rows` credentials were held, and decoding took at most 4 steps for each byte and 2
         for each request."""
         _, most, _, requests, size, steps = self.counts
-        assert most == rows, f"{most} credentials were held"
+        assert most == rows, f"expected a peak of {rows} credentials, got {most}"
         assert steps <= 4 * size + 2 * requests, f"{requests} requests of {size} bytes took {steps} steps"
 
 
@@ -93,7 +93,7 @@ def run_live(inputs: Sequence[bytes], *options: str) -> LiveResult:
         elif line.startswith(b"# need "):
             answers.append(InputResult(key, line[7:]))
             key = []
-    assert len(answers) == len(inputs), f"{len(answers)} inputs of {len(inputs)} were answered"
+    assert len(answers) == len(inputs), f"live has results for {len(answers)} of {len(inputs)} inputs"
     return LiveResult(answers, [int(word) for word in lines[-2].split()[2::2]])
 
 
@@ -123,7 +123,7 @@ def test_truncated_registration_is_refused(work_dir: Path) -> None:
     compare_sessions(work_dir, logs)
     for length, steps in ((1, 1), (90, 99)):
         lived = run_live(format_host_packets([*INIT_PACKETS, *split_into_packets(1, CBOR, REGISTRATION[:length])]))
-        assert lived.counts[5] == steps, f"{length} bytes took {lived.counts[5]} steps"
+        assert lived.counts[5] == steps, f"{length} bytes took {lived.counts[5]} steps, expected {steps}"
 
 
 def test_large_heads_long_keys_and_deep_values(_: Path) -> None:
@@ -136,8 +136,10 @@ def test_large_heads_long_keys_and_deep_values(_: Path) -> None:
     ]
     for request, answer, steps in cases:
         lived = run_live(format_host_packets([*INIT_PACKETS, *split_into_packets(1, CBOR, request)]))
-        assert lived.answers[-1].packets == [answer], f"{request.hex()} is answered {lived.answers[-1].packets}"
-        assert steps in (None, lived.counts[5]), f"{request.hex()} took {lived.counts[5]} steps"
+        assert lived.answers[-1].packets == [
+            answer
+        ], f"unexpected response to {request.hex()}: {lived.answers[-1].packets}"
+        assert steps in (None, lived.counts[5]), f"{request.hex()} took {lived.counts[5]} steps, expected {steps}"
         lived.check_limits(0)
 
 
@@ -170,10 +172,10 @@ def check_each_byte_changed(request: bytes, after: list[bytes], *options: str) -
             assert first.need == b"nothing" and len(first.packets) == 1, changed.hex()
             number = first.packets[0][7]
             assert number != 0 and first.packets == [make_status_packet(number)], changed.hex()
-        assert served.need == b"nothing", f"{changed.hex()} leaves {served.need!r}"
+        assert served.need == b"nothing", f"after {changed.hex()}, the key still needs {served.need!r}"
         assert not after or told[-1] == InputResult(
             [make_status_packet(0)], b"nothing"
-        ), f"after {changed.hex()} nothing is reset"
+        ), f"after {changed.hex()}, the reset fails: {told[-1]}"
     lived.check_limits(1)
 
 
@@ -202,11 +204,13 @@ def check_each_packet_changed(request: bytes, after: list[bytes], *options: str)
         begin += len(group)
         served, greeted = told[len(whole) + 2], told[len(whole) + 3]
         shown = group[: len(whole)]
-        assert served.need == b"nothing", f"{shown} leaves {served.need!r}"
-        assert greeted.packets[-1:] and greeted.packets[-1][:15] == greeted_front, f"{shown}, and no host is greeted"
+        assert served.need == b"nothing", f"after {shown}, the key still needs {served.need!r}"
+        assert (
+            greeted.packets[-1:] and greeted.packets[-1][:15] == greeted_front
+        ), f"after {shown}, INIT gets no response"
         assert not after or told[-1] == InputResult(
             [make_status_packet(0)], b"nothing"
-        ), f"{shown}, and nothing is reset"
+        ), f"after {shown}, the reset fails: {told[-1]}"
     lived.check_limits(1)
 
 

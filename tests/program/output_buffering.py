@@ -38,11 +38,11 @@ def test_many_lines_take_few_writes(work_dir: Path) -> None:
     ):
         (work_dir / "log").write_bytes(log)
         count, text = count_writes(words, work_dir / "log")
-        assert text == wanted, f"{words} wrote something else"
+        assert text == wanted, f"unexpected output of {words}"
         # The writes for a file: two for each 4096 bytes that are read, one for each 8192 bytes that are buffered, and
         # one for the counts.
         most = 3 * (len(log) // 4096 + 1) + len(text) // 4096 + 2
-        assert count <= most, f"{words}: {count} writes and not {most}"
+        assert count <= most, f"{words}: expected at most {most} writes, got {count}"
 
 
 def read_until(program: subprocess.Popen[bytes], part: bytes) -> bytes:
@@ -51,9 +51,9 @@ def read_until(program: subprocess.Popen[bytes], part: bytes) -> bytes:
     text = b""
     while part not in text:
         ready, _, _ = select.select([program.stdout], [], [], 20)
-        assert ready, f"{text!r} came, and no {part!r}"
+        assert ready, f"expected {part!r} in the output, got {text!r}"
         more = os.read(program.stdout.fileno(), 65536)
-        assert more, f"{text!r} came, and then the end"
+        assert more, f"expected {part!r} in the output, which ended after {text!r}"
         text += more
     return text
 

@@ -188,7 +188,9 @@ def test_saving_replaces_file(work_dir: Path) -> None:
         keys.write_bytes(old)
         node = keys.stat().st_ino
         check_result(run(["replay", "--load", str(SNAPSHOT), "--save", str(keys)], SIGN_IN_AGAIN.read_bytes()), 0, b"")
-        assert keys.read_bytes() == wanted and keys.stat().st_ino == node, f"over {len(old)} bytes"
+        assert (
+            keys.read_bytes() == wanted and keys.stat().st_ino == node
+        ), f"saving over {len(old)} bytes wrote another snapshot or replaced the file"
 
 
 def test_failed_write_keeps_file(work_dir: Path) -> None:
@@ -201,7 +203,7 @@ def test_failed_write_keeps_file(work_dir: Path) -> None:
             words = ["replay", "--load", str(SNAPSHOT), "--save", str(keys)]
             trace = ["-e", f"inject=pwrite64:{fault}:when=3"]
             said = run(words, SIGN_IN_AGAIN.read_bytes(), trace=trace)
-            assert said.returncode != 0, f"{fault}: nothing was injected"
+            assert said.returncode != 0, f"{fault}: the program succeeded, so the fault was not injected"
             assert keys.read_bytes() == old, f"{fault}: the file has {len(keys.read_bytes())} bytes"
             if fault.startswith("error"):
                 assert said.stderr == b"hidlog: cannot write snapshot\n", said.stderr
@@ -349,7 +351,7 @@ def test_invalid_lines_are_located(_: Path) -> None:
         (b"t -5", "byte 3 is '-': expected a time in milliseconds"),
         (b"t 18446744073709551616", "byte 22 is '6': the largest time is 18446744073709551615"),
         (b"t 5 ", "byte 4 is ' ': expected the end of the line"),
-        (b"> 5.25 00", "byte 4 is '.': expected a space and what comes behind the time"),
+        (b"> 5.25 00", "byte 4 is '.': expected a space and the rest of the line after the time"),
         (b"x 5", f"byte 1 is 'x': {letters}"),
         (b"P 5 granted", "byte 1 is 'P': the letters of log lines are lower case"),
         (b"> 5 " + b"0" * 127, "it ends after byte 131: a packet has 128 hexadecimal digits, not 127"),

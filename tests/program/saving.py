@@ -16,8 +16,8 @@ from running import COUNTS, INIT, PROGRAM, SIGN_IN_AGAIN, SNAPSHOT, Said, check_
 
 CANNOT_READ, CANNOT_WRITE = b"hidlog: cannot read snapshot\n", b"hidlog: cannot write snapshot\n"
 IN_USE_MESSAGE = b"another program has loaded it, and is going to save to it\n"
-DAMAGED_MESSAGE = b"its bytes don't match its .hidlog-sum: it is damaged; else remove that file\n"
-INVALID_SUMS_MESSAGE = b"the file of its name and .hidlog-sum has no sums: remove it\n"
+DAMAGED_MESSAGE = b"its bytes don't match its .hidlog-sum: restore it, or remove the .hidlog-sum\n"
+INVALID_SUMS_MESSAGE = b"its .hidlog-sum file has no checksums: remove that file\n"
 # The signature counter in the example's snapshot: key 07, followed by an integer below 24.
 COUNTER = re.compile(rb"\x06\xf5\x07(\x18.|[\x00-\x17])\x08", re.DOTALL)
 

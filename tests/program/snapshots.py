@@ -255,7 +255,9 @@ def test_each_byte_of_snapshot_changed(work_dir: Path) -> None:
             text[place] = bytes([byte])
             check(*words)
             told = (outcome.status, outcome.fault)
-            assert told == ((2, wanted[0]) if wanted else (0, 0)), f"{byte:02x} at {place} is answered {told}"
+            assert told == (
+                (2, wanted[0]) if wanted else (0, 0)
+            ), f"{byte:02x} at byte {place}: unexpected status and error {told}"
         text[place] = bytes([old])
     for number in range(2):
         for first, _, least, _, _ in BYTE_CHANGES:

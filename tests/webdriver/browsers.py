@@ -242,7 +242,7 @@ def test_cross_origin(name: str, has_gate: bool) -> VictimServer:
             )
         )
         with serve_in_thread(handler) as own, open_browser(name, f"http://{ATTACKER_HOST}:{own}/"):
-            assert handler.reported.wait(TIMEOUT_SECONDS), "the page doesn't end"
+            assert handler.reported.wait(TIMEOUT_SECONDS), "the page reported no results in time"
     return victim
 
 
@@ -254,11 +254,11 @@ def test_dns_rebinding(name: str, has_gate: bool) -> tuple[VictimServer, Any]:
         page = make_attacker_handler(REBINDING_PAGE.replace("${CONTROL}", f"http://127.0.0.1:{at}"))
         port = until_turn.enter_context(serve_in_thread(page))
         with open_browser(name, f"http://{ATTACKER_HOST}:{port}/"):
-            assert control.turned.wait(TIMEOUT_SECONDS), "the page doesn't begin"
+            assert control.turned.wait(TIMEOUT_SECONDS), "the page did not start in time"
             until_turn.close()
             with victim.listen(port):
                 control.may_go.set()
-                assert control.reported.wait(TIMEOUT_SECONDS), "the page doesn't end"
+                assert control.reported.wait(TIMEOUT_SECONDS), "the page reported no results in time"
     return victim, control.report
 
 

@@ -132,7 +132,9 @@ def test_no_foreign_keys(rig: AuthenticatorFixture) -> None:
     signature = encode_dss_signature(int.from_bytes(raw[:32], "big"), int.from_bytes(raw[32:], "big"))
     rig.private.public_key().verify(signature, make_data_to_sign("bank.example"), ec.ECDSA(hashes.SHA256()))
     sub = Document("t", 3, "3", "https://login.bank.example:8443")
-    assert len(rig.send(sub, {"id": 4, "name": "begin"})[1]["credentials"]) == 1, "a host below the RP ID's"
+    assert (
+        len(rig.send(sub, {"id": 4, "name": "begin"})[1]["credentials"]) == 1
+    ), "a subdomain of the RP ID does not get its credentials"
     for origin in (
         "https://notbank.example",
         "https://bank.example.evil.example",

@@ -111,14 +111,14 @@ def test_other_origin(suite: ProxySession) -> None:
     assert isinstance(suite.call_page("signIn", allow=[own["id"]]), dict)
     suite.list_credentials()
     loot = suite.read_attacker_data()
-    assert len(loot) > 10_000 and own["id"] in loot, "the page keeps what comes by"
+    assert len(loot) > 10_000 and own["id"] in loot, "the attacker's page did not store the data that it can read"
     for held in secret:
         assert not find_leaked_texts(loot, held), (held["credentialId"], find_leaked_texts(loot, held))
     mine = [credential for credential in suite.list_credentials() if credential["rpId"] == "a.localhost"]
     assert len(mine) == 2
     numbers = [{**credential, "credentialId": credential["privateKey"]} for credential in mine]
     if suite.has_devtools:
-        assert not any(find_leaked_texts(loot, number) for number in numbers), "no private key is in a page"
+        assert not any(find_leaked_texts(loot, number) for number in numbers), "the page got a private key"
         assert suite.call_page("signIn", allow=[secret[0]["credentialId"]]) == "NotAllowedError"
     suite.open(suite.page)
     assert suite.call_page("signIn", allow=[secret[0]["credentialId"]])["id"] == secret[0]["credentialId"]
@@ -211,7 +211,7 @@ def test_windows(suite: ProxySession) -> None:
         time.sleep(0.05)
     if suite.has_devtools:
         at_first = suite.run("return document.getElementById('at-first').textContent")
-        assert at_first == "false", "the key is there before the first script of a window"
+        assert at_first == "false", "the key was not installed before the first script of a window"
     made = suite.call_page("register", residentKey="required")
     assert run.call("DELETE", f"{suite.url}/window")[0] == 200
     assert suite.post("/window", {"handle": first})[0] == 200
@@ -228,7 +228,7 @@ def test_removal(suite: ProxySession) -> None:
     stored = suite.run("return Object.keys({ ...localStorage, ...sessionStorage })")
     assert not [name for name in stored if name.startswith("hidlog")], stored
     suite.post("/refresh", {})
-    assert suite.run(names) == [], "a new document"
+    assert suite.run(names) == [], "a new document has parts of the authenticator"
 
 
 TESTS: list[Callable[[ProxySession], None]] = [

@@ -250,7 +250,7 @@ class CommandTests:
         assert self.call_page("register", name="bob")["flags"] == 0x41
         self.expect_error("invalid argument", "truncateBy", f"{key}/faults", {"wrong": 1})
         ((origin, parts),) = call("GET", f"{self.url}{key}/log")[1].items()
-        assert self.page.startswith(origin) and "# fault: the answer is status 0x28" in parts[-1]["log"]
+        assert self.page.startswith(origin) and "# fault: the response has status 0x28" in parts[-1]["log"]
         assert sum(part["log"].count(" denied\n") for part in parts) == 1, parts
         assert [recording["index"] for recording in parts] == list(range(1, len(parts) + 1)), parts
         assert call("DELETE", self.url + key) == (200, {})
@@ -307,7 +307,7 @@ class CommandTests:
         assert self.call_page("signIn")["user"] == "ann"
         self.post("/execute/sync", {"script": "localStorage.clear()", "args": []})
         self.post("/refresh", {})
-        assert self.call_page("signIn")["user"] == "ann", "a page that clears its storage"
+        assert self.call_page("signIn")["user"] == "ann", "sign-in fails after the page cleared its storage"
         assert call("DELETE", self.url + key) == (200, {})
 
     def test_other_commands(self) -> None:
@@ -331,7 +331,10 @@ class CommandTests:
         self.post("/url", {"url": self.page})
         first = {"script": "return document.getElementById('at-first').textContent", "args": []}
         is_native = str(not self.has_devtools).lower()
-        assert self.post("/execute/sync", first) == (200, is_native), "with DevTools the key is there before the page"
+        assert self.post("/execute/sync", first) == (
+            200,
+            is_native,
+        ), "the key was not installed before the first script"
         assert call("DELETE", self.url + key) == (200, {})
 
     def end_session(self) -> None:

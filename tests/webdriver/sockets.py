@@ -202,7 +202,9 @@ def test_ambiguous_requests() -> None:
                 ]
             else:
                 assert parse_status(response) >= 400 and statuses == 1 and rig.take_requests() == [], (first, response)
-        assert rig.exchange_bytes(good + good).count(b"HTTP/1.1 200") == 2, "two requests in one write"
+        assert (
+            rig.exchange_bytes(good + good).count(b"HTTP/1.1 200") == 2
+        ), "expected two responses to two requests in one write"
 
 
 def test_invalid_json() -> None:
@@ -215,7 +217,7 @@ def test_invalid_json() -> None:
         assert parse_status(rig.post(path, deep)) == 400
         assert (
             parse_status(rig.post("/session/known/url", deep)) == 200
-        ), "the driver's own commands are as they were sent"
+        ), "a command for the driver was not passed on unchanged"
 
 
 def test_unknown_sessions() -> None:
@@ -225,7 +227,7 @@ def test_unknown_sessions() -> None:
             rig.post(f"/session/unknown{number}/url", b"{}")
             rig.post(f"/session/unknown{number}/webauthn/authenticator", b'{"protocol":"ctap2","transport":"usb"}')
         assert len(rig.proxy._sessions) == 0, rig.proxy._sessions
-        assert len(rig.handler.connections) < 20, "the connection to the driver stays open"
+        assert len(rig.handler.connections) < 20, "the proxy opened too many connections to the driver"
 
 
 def read_until_closed(connection: socket.socket) -> bytes:

@@ -36,7 +36,7 @@ fn main() {
     for line in stdin().lock().lines() {
         let line = line.expect("a line in UTF-8");
         let words: Vec<&str> = line.split('\t').collect();
-        let answer = match words[0] {
+        let result = match words[0] {
             "key" => match new_browser(&words[1..]) {
                 Ok(made) => {
                     browser = made;
@@ -58,6 +58,6 @@ fn main() {
                 make_call(&mut browser, method, words[3])
             }
         };
-        println!("{answer}");
+        println!("{result}");
     }
 }

@@ -1,20 +1,43 @@
-"""The command line of the oracles, which check generated logs. A seed and a number determine each log."""
+"""Runs fuzzers in processes on this machine or on a Dask cluster, and reads the command line of the oracles, which
+check generated logs. A seed and a number determine each log."""
 
 from __future__ import annotations
 
 import argparse
+import multiprocessing
 import os
-from collections.abc import Callable
+import sys
+from collections.abc import Callable, Iterable, Iterator
+from contextlib import contextmanager
 from pathlib import Path
-from typing import Optional
+from typing import Any, Optional
 
-import executors
-
-TOP = Path(__file__).resolve().parents[2]
+HERE = Path(__file__).resolve().parent
+TOP = HERE.parents[1]
+CONFORMANCE = TOP / "conformance"
+BATCH_SIZE = 8
+RunTasks = Callable[[Callable[[Any], Any], Iterable[Any]], Iterator[Any]]
 # A program, a seed and a log number.
 Task = tuple[str, str, int]
 # The log's number, the error in the program's output for the log, if any, and the number of items that were checked.
 Judged = tuple[int, Optional[str], int]
+
+
+@contextmanager
+def make_runner(executor: str, jobs: int) -> Iterator[RunTasks]:
+    """Returns a function that runs tasks, and yields their results in any order."""
+    if not executor:
+        with multiprocessing.Pool(jobs) as pool:
+            yield lambda play, tasks: pool.imap_unordered(play, tasks, chunksize=BATCH_SIZE)
+        return
+    sys.path.insert(0, str(CONFORMANCE))
+    from hidlog_conformance.executor import iter_results
+
+    folders = [str(HERE), str(CONFORMANCE)]
+    try:
+        yield lambda play, tasks: iter_results(executor, folders, play, tasks)
+    except ValueError as fault:
+        sys.exit(f"{Path(sys.argv[0]).name}: {fault}")
 
 
 def check_logs(
@@ -41,7 +64,7 @@ def check_logs(
     if asked.only is not None and lines_of:
         print("\n".join(lines_of(asked.seed, asked.only)))
     found = looked_at = 0
-    with executors.make_runner(asked.executor, asked.jobs) as played:
+    with make_runner(asked.executor, asked.jobs) as played:
         for number, finding, count in played(judge, [(asked.program, asked.seed, number) for number in numbers]):
             looked_at += count
             if finding:
