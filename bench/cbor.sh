@@ -13,7 +13,8 @@ rm -rf "$work/crates/ctap_cbor"
 cp -r "$here/../crates/ctap_cbor" "$work/crates/"
 printf 'ctap_cbor: byteorder thiserror\ncbor_bench: ctap_cbor\n' > "$work/crates.txt"
 cat > "$work/crates/cbor_bench/src/main.rt" <<'PROGRAM'
-//! Checks the messages on standard input, for as many rounds as its first byte, and prints how many are canonical.
+//! Checks the messages on standard input, after a first byte with the number of rounds, and prints how many are
+//! canonical in all rounds.
 #![tactic(auto)]
 
 use ctap_cbor::check;

@@ -257,7 +257,7 @@ def measure_slopes() -> Iterator[tuple[str, float]]:
 def measure_stored() -> Iterator[tuple[str, float]]:
     """Yields the number of characters that the thousandth sign-in writes to a page's storage, divided by that of the
     first sign-in."""
-    first, last = map(int, run("node", str(TOP / "bench/stored_sign_ins.mjs")).stdout.split())
+    first, last = map(int, run("node", str(TOP / "bench/page_key.mjs"), "1000", "storage").stdout.split())
     yield "stored sign-in", last / first
 
 

@@ -1,10 +1,10 @@
 #!/usr/bin/env bash
 # Lists the library functions that crates/hello_key calls in the core for a PING and a registration. The program is
-# built without inlining and run under callgrind, from Session::step to the last packet. The start of the session and
-# the host's part of the program are excluded, and so are functions of `derive`, closures and the proofs' functions
-# (modules `laws`). Then prints the number of functions, and the parameters that a function only passes on to others
-# (pass_through_args.py). hello_key is proved first, which takes a minute, or half an hour if the libraries have not
-# been proved yet. Needs rt and valgrind.
+# built without inlining and run under callgrind, which records only Session::step and OutboxIterator::next. So the
+# start of the session and the host's part of the program are excluded. Functions that `derive` generates, closures and
+# the proofs' functions (modules `laws`) are not listed. Then prints the number of functions, and the parameters that a
+# function only passes on to others (pass_through_args.py). hello_key is proved first, which takes a minute, or half an
+# hour if the libraries have not been proved yet. Needs rt and valgrind.
 #
 #     bench/functions.sh [DIR]
 set -euo pipefail

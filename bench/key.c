@@ -21,7 +21,7 @@ static void expect(int32_t found, int32_t expected, const char *what) {
     }
 }
 
-// Reads the queued packets.
+// Checks the number of queued packets, and reads them.
 static void read_packets(int32_t waiting, int32_t expected, const char *what) {
     uint8_t packet[64];
     expect(waiting, expected, what);
@@ -57,19 +57,20 @@ static void register_credential(void) {
     memset(id, 0xaa, sizeof id);
     read_packets(send(0, 0xffffffff, 6, nonce, 8), 1, "INIT");
     read_packets(send(0, 1, 0x10, make_credential, sizeof make_credential - 1), 1, "authenticatorMakeCredential");
-    read_packets(hidlog_key_provide_presence(&key, 0, HIDLOG_PRESENCE_GRANTED), 1, "presence");
-    read_packets(hidlog_key_provide_key_pair(&key, 0, id, id, id), 0, "a new key");
-    read_packets(hidlog_key_provide_signature(&key, 0, nonce, 8), 4, "a signature");
+    read_packets(hidlog_key_provide_presence(&key, 0, HIDLOG_PRESENCE_GRANTED), 1, "hidlog_key_provide_presence");
+    read_packets(hidlog_key_provide_key_pair(&key, 0, id, id, id), 0, "hidlog_key_provide_key_pair");
+    read_packets(hidlog_key_provide_signature(&key, 0, nonce, 8), 4, "hidlog_key_provide_signature");
 }
 
 static void sign_in(uint64_t at) {
     static const uint8_t signature[70] = {0x30, 0x44};
     struct hidlog_need need;
     read_packets(send(at, 1, 0x10, get_assertion, sizeof get_assertion - 1), 1, "authenticatorGetAssertion");
-    expect(hidlog_key_get_need(&key, &need), HIDLOG_NEED_PRESENCE, "need");
-    read_packets(hidlog_key_provide_presence(&key, at, HIDLOG_PRESENCE_GRANTED), 1, "presence");
-    expect(hidlog_key_get_need(&key, &need), HIDLOG_NEED_SIGNATURE, "need");
-    read_packets(hidlog_key_provide_signature(&key, at, signature, sizeof signature), 4, "a signature");
+    expect(hidlog_key_get_need(&key, &need), HIDLOG_NEED_PRESENCE, "hidlog_key_get_need");
+    read_packets(hidlog_key_provide_presence(&key, at, HIDLOG_PRESENCE_GRANTED), 1, "hidlog_key_provide_presence");
+    expect(hidlog_key_get_need(&key, &need), HIDLOG_NEED_SIGNATURE, "hidlog_key_get_need");
+    read_packets(hidlog_key_provide_signature(&key, at, signature, sizeof signature), 4,
+                 "hidlog_key_provide_signature");
 }
 
 static double now_seconds(void) {
@@ -88,7 +89,7 @@ int main(int count, char **words) {
     }
     double first_seconds = 0, last_begin = 0;
     key.memory = aligned_alloc(16, (hidlog_key_size() + 15) / 16 * 16);
-    expect(hidlog_key_init(&key, aaguid, 0, aaguid, 0), 0, "make");
+    expect(hidlog_key_init(&key, aaguid, 0, aaguid, 0), 0, "hidlog_key_init");
     register_credential();
     double begin = now_seconds();
     for (unsigned long i = 0; i < sign_ins; i++) {

@@ -1,12 +1,12 @@
 // Registers a credential on an in-memory key of the WebAssembly module, and signs in COUNT times, as bench/key.c does.
-// Only the calls of the module are timed.
+// Only the sign-ins are timed.
 //
 //     node bench/key.mjs [MODULE [COUNT]]     prints the seconds for the first and the last thousand sign-ins, and the
 //                                             minimum and median of all thousands
 //
 // On a busy machine: chrt -f 1 node bench/key.mjs.
 //
-// MODULE is release/hidlog.wasm by default, COUNT 10000.
+// MODULE is release/hidlog.wasm by default. COUNT is 10000 by default, and is rounded up to whole thousands.
 import { readFileSync } from "node:fs";
 import { fileURLToPath } from "node:url";
 import { INITIALIZATION_DATA, PACKET_SIZE } from "../bindings/web/key/standard.js";

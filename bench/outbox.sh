@@ -13,8 +13,8 @@ cp -r "$from/crates/hid_packet" "$work/crates/"
 grep '^hid_packet:' "$from/crates.txt" > "$work/crates.txt"
 echo 'outbox_bench: hid_packet' >> "$work/crates.txt"
 cat > "$work/crates/outbox_bench/src/main.rt" <<'PROGRAM'
-//! Puts messages and takes their packets, as two bytes of standard input say: the rounds, and whether the messages
-//! are the longest or of one byte.
+//! Puts messages and takes their packets. Standard input has two bytes: the number of rounds, and 0 for messages of
+//! maximum length or another value for messages of one byte.
 #![tactic(auto)]
 
 use hid_packet::laws::written_packets_are_the_fewest;
@@ -22,8 +22,8 @@ use hid_packet::{Outbox, Packet};
 use std::io;
 use std::io::Read;
 
-/// Puts a message and takes its packets. It gives a byte of the last one: which is not known here, so each packet
-/// is made whole.
+/// Puts a message and takes its packets. Returns a byte of the last packet, at an index that the compiler does not
+/// know, so that it builds each whole packet.
 fn round(outbox: &mut Outbox, bytes: &[u8], place: usize) -> u8 {
     written_packets_are_the_fewest();
     if !outbox.is_empty() || bytes.len() > 7609 {

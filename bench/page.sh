@@ -13,7 +13,7 @@ failed=0
 
 measure_browser() {
     echo "== $("$1" --version 2>/dev/null), load $(cut -d' ' -f1-3 /proc/loadavg)"
-    "$top/tests/with_fido2.sh" "$top/tests/web/serve.py" "$work" 'long.html?quiet=yes' "$@" || failed=1
+    "$top/tests/with_fido2.sh" "$top/tests/web/serve.py" "$work" 'long_tests&quiet=yes' "$@" || failed=1
 }
 
 [ "${1-chromium}" != chromium ] || measure_browser chromium --headless=new --no-sandbox --disable-dev-shm-usage \

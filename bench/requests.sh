@@ -18,8 +18,8 @@ done
 printf '%s\n' 'ctap_cbor: byteorder thiserror' 'ctap_message: ctap_cbor arrayvec' \
     'requests_bench: ctap_cbor ctap_message' > "$work/crates.txt"
 cat > "$work/crates/requests_bench/src/main.rt" <<'PROGRAM'
-//! Reads the message on standard input after two bytes, for as many rounds as the first: by `read_request` if the second is
-//! 0, otherwise by `check`. Prints the steps of all rounds.
+//! The first byte of standard input is the number of rounds, the second is 0 for `read_request` and not 0 for `check`,
+//! and the rest is the message. Prints the total number of steps.
 #![tactic(auto)]
 
 use ctap_cbor::check;

@@ -14,7 +14,7 @@ from pathlib import Path
 
 top, work = map(Path, sys.argv[1:])
 sys.path.insert(0, str(top / "tests/fuzz"))
-from framing import MAX_MESSAGE_BYTES, packets
+from framing import MAX_MESSAGE_BYTES, split_into_packets
 
 SIZE = 24_000_000
 
@@ -27,7 +27,7 @@ def request(head, byte):
     """Returns the lines of a request of 7609 bytes: command 1, and a map with one string."""
     length = MAX_MESSAGE_BYTES - 6
     message = b"\x01\xa1\x01" + bytes([head]) + length.to_bytes(2, "big") + byte * length
-    return "".join(f"> 0 {packet.hex()}\n" for packet in packets(1, 0x10, message)).encode()
+    return "".join(f"> 0 {packet.hex()}\n" for packet in split_into_packets(1, 0x10, message)).encode()
 
 
 worked = b"".join(log.read_bytes() for log in sorted((top / "crates/hidlog_cli/data").glob("*/*.log")))

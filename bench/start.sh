@@ -24,7 +24,7 @@ count_instructions() {
 }
 
 loops=glibc.cpu.x86_rep_stosb_threshold=100000000:glibc.cpu.x86_rep_movsb_threshold=100000000
-echo "instructions to start and to respond to an INIT (in parentheses: each byte of a string instruction as one):"
+echo "instructions to start and to respond to an INIT (in parentheses: each byte of a string instruction counts as one):"
 for words in replay live check quiet show --help --version "replay --load examples/example_com.snapshot"; do
     # shellcheck disable=SC2086  # the words must be split
     echo "$(count_instructions $loops $words) ($(count_instructions "" $words))  $words"

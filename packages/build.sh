@@ -228,7 +228,7 @@ if command -v wasm2c >/dev/null; then
     "$top/bindings/c/build.sh" "$to" "$work/portable"
     export HIDLOG_PORTABLE=$work/portable
 else
-    echo "packages: wabt is missing, skipping the portable library and its copies in the Go and Rust packages (apt-get install wabt)" >&2
+    echo "packages: wabt is missing, skipping the portable library, its copies in the Go and Rust packages, and the packages for Windows (apt-get install wabt)" >&2
 fi
 build_npm_package
 build_go_module

@@ -110,7 +110,7 @@ build_large_library() {
     cp -r crates/hidlog_c/src crates/hidlog_c/specs crates/hidlog_c/proofs "$large"
     sed -i 's/^pub const CAPACITY: usize = 64;$/pub const CAPACITY: usize = 256;/' "$large/src/capacity.rt"
     grep -q '^pub const CAPACITY: usize = 256;$' "$large/src/capacity.rt" ||
-        fail "hidlog_c/src/capacity.rt: expected the line 'pub const CAPACITY: usize = 64;'"
+        fail "crates/hidlog_c/src/capacity.rt: expected the line 'pub const CAPACITY: usize = 64;'"
     build_library "$large" x86_64-unknown-linux-gnu "$made/libhidlog-256.a"
     build_shared libhidlog-256
 }
@@ -176,7 +176,7 @@ compare_release() {
         elif [ "$name" = hidlog ] && differs_in_tool linker; then
             echo "same  release/hidlog, by its object file: this machine has another gcc or C library"
         elif [ "$name" = aarch64/hidlog ] && differs_in_tool "linker for aarch64"; then
-            echo "same  release/aarch64/hidlog, not compared: this machine has another gcc or C library"
+            echo "skipped  release/aarch64/hidlog: this machine has another gcc or C library"
         elif [ "$name" = hidlog.wasm ] && differs_in_tool "lowered by"; then
             echo "same  release/hidlog.wasm, compared before wasm-opt: this machine has another wasm-opt"
         elif [ "$name" = BUILD ] && differs_only_in_tools; then

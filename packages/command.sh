@@ -2,9 +2,9 @@
 # The command `hidlog` of a clone and of the Debian packages: the verified program, or the Python package for its
 # commands. Sourced by ./hidlog, and copied by packages/debian.sh into /usr/bin/hidlog.
 #
-# Both set $program, the path of the verified program, and run_python, a function that runs the Python package's
-# command. No program is looked up on PATH, except python3 in a clone. tests/one_command.py compares this list of
-# commands with those of the other packages.
+# Both set $program, the path of the verified program, and run_python, a function that replaces the shell with the
+# Python package's command, or exits. No program is looked up on PATH, except python3 in a clone. tests/one_command.py
+# compares this list of commands with those of the other packages.
 # shellcheck disable=SC2154 # $program is set by the sourcing script
 case ${1-} in
 webdriver | browser | import | export | judge | shrink | check-many | mermaid) run_python "$@" ;;

@@ -21,7 +21,7 @@ print_copyright() {
         echo "Copyright: 2026 Cogtzil maintainers"
         echo " 1991-2022 Free Software Foundation, Inc."
         echo "License: Apache-2.0 or Expat, and LGPL-2.1+"
-        echo "Comment: The program holds parts of the GNU C Library of Debian's libc6-dev, linked statically."
+        echo "Comment: The program contains parts of the GNU C Library of Debian's libc6-dev, linked statically."
         echo " Their source is Debian's source package glibc. How the program is linked is in"
         echo " packages/build_release.sh of hidlog's sources, so that it can be linked with another C library."
         echo
@@ -128,7 +128,7 @@ build_program_package() {
 link_aarch64() {
     local linker
     linker=$(command -v aarch64-linux-gnu-ld || command -v ld.lld) || {
-        echo "packages: a linker for aarch64 is missing, skipping the Debian packages for arm64 (apt-get install lld)" >&2
+        echo "packages: a linker for aarch64 is missing, skipping the packages and the tarball for arm64 (apt-get install lld)" >&2
         return 1
     }
     mkdir -p "$work/aarch64"

@@ -43,7 +43,7 @@ struct credential {
 
 /* A request's members. */
 struct request {
-    struct text client_data_hash, rp_id, user_id, list[MAX_CREDENTIALS];
+    struct string client_data_hash, rp_id, user_id, list[MAX_CREDENTIALS];
     size_t list_len;
     bool has_list, has_algorithms, has_algorithm, has_pin, has_attestation;
     bool rk, is_rk_given, up, uv;
@@ -103,12 +103,12 @@ struct stats authenticator_stats(void) {
     return stats;
 }
 
-static struct text read_key(struct reader *reader) {
-    struct text key;
-    return cbor_read_text(reader, TEXT, &key) ? key : (struct text){0};
+static struct string read_key(struct reader *reader) {
+    struct string key;
+    return cbor_read_string(reader, TEXT, &key) ? key : (struct string){0};
 }
 
-/* The following functions decode a member of a request. Each returns OK or a CTAP2 error status. */
+/* The following functions decode a member of a request, or skip it. Each returns OK or a CTAP2 error status. */
 
 static uint8_t read_rp(struct reader *reader, struct request *request) {
     uint64_t pairs;
@@ -116,14 +116,14 @@ static uint8_t read_rp(struct reader *reader, struct request *request) {
         return UNEXPECTED_TYPE;
     }
     for (; pairs > 0; pairs--) {
-        struct text key = read_key(reader), name;
-        if (text_equals(key, "id")) {
-            if (!cbor_read_text(reader, TEXT, &request->rp_id)) {
+        struct string key = read_key(reader), name;
+        if (string_equals(key, "id")) {
+            if (!cbor_read_string(reader, TEXT, &request->rp_id)) {
                 return UNEXPECTED_TYPE;
             }
-        } else if (!text_equals(key, "name")) {
+        } else if (!string_equals(key, "name")) {
             cbor_skip(reader);
-        } else if (!cbor_read_text(reader, TEXT, &name)) {
+        } else if (!cbor_read_string(reader, TEXT, &name)) {
             return UNEXPECTED_TYPE;
         }
     }
@@ -136,14 +136,14 @@ static uint8_t read_user(struct reader *reader, struct request *request) {
         return UNEXPECTED_TYPE;
     }
     for (; pairs > 0; pairs--) {
-        struct text key = read_key(reader), name;
-        if (text_equals(key, "id")) {
-            if (!cbor_read_text(reader, BYTES, &request->user_id)) {
+        struct string key = read_key(reader), name;
+        if (string_equals(key, "id")) {
+            if (!cbor_read_string(reader, BYTES, &request->user_id)) {
                 return UNEXPECTED_TYPE;
             }
-        } else if (!text_equals(key, "name") && !text_equals(key, "displayName")) {
+        } else if (!string_equals(key, "name") && !string_equals(key, "displayName")) {
             cbor_skip(reader);
-        } else if (!cbor_read_text(reader, TEXT, &name)) {
+        } else if (!cbor_read_string(reader, TEXT, &name)) {
             return UNEXPECTED_TYPE;
         }
     }
@@ -152,28 +152,28 @@ static uint8_t read_user(struct reader *reader, struct request *request) {
 
 static uint8_t read_algorithm(struct reader *reader, struct request *request) {
     uint64_t pairs, number = 0;
-    struct text type = {0};
+    struct string type = {0};
     enum major major = SIMPLE;
     if (!cbor_read_count(reader, MAP, &pairs)) {
         return UNEXPECTED_TYPE;
     }
     for (; pairs > 0; pairs--) {
-        struct text key = read_key(reader);
-        if (text_equals(key, "alg")) {
+        struct string key = read_key(reader);
+        if (string_equals(key, "alg")) {
             number = cbor_read_head(reader, &major);
             if (major > NEGATIVE) {
                 return UNEXPECTED_TYPE;
             }
-        } else if (!text_equals(key, "type")) {
+        } else if (!string_equals(key, "type")) {
             cbor_skip(reader);
-        } else if (!cbor_read_text(reader, TEXT, &type)) {
+        } else if (!cbor_read_string(reader, TEXT, &type)) {
             return UNEXPECTED_TYPE;
         }
     }
     if (major == SIMPLE || type.data == NULL) {
         return MISSING_PARAMETER;
     }
-    request->has_algorithm |= major == NEGATIVE && number == 6 && text_equals(type, "public-key");
+    request->has_algorithm |= major == NEGATIVE && number == 6 && string_equals(type, "public-key");
     return OK;
 }
 
@@ -192,26 +192,26 @@ static uint8_t read_algorithms(struct reader *reader, struct request *request) {
 
 static uint8_t read_descriptor(struct reader *reader, struct request *request) {
     uint64_t pairs;
-    struct text id = {0}, type = {0};
+    struct string id = {0}, type = {0};
     if (!cbor_read_count(reader, MAP, &pairs)) {
         return UNEXPECTED_TYPE;
     }
     for (; pairs > 0; pairs--) {
-        struct text key = read_key(reader);
-        if (text_equals(key, "id")) {
-            if (!cbor_read_text(reader, BYTES, &id)) {
+        struct string key = read_key(reader);
+        if (string_equals(key, "id")) {
+            if (!cbor_read_string(reader, BYTES, &id)) {
                 return UNEXPECTED_TYPE;
             }
-        } else if (!text_equals(key, "type")) {
+        } else if (!string_equals(key, "type")) {
             cbor_skip(reader);
-        } else if (!cbor_read_text(reader, TEXT, &type)) {
+        } else if (!cbor_read_string(reader, TEXT, &type)) {
             return UNEXPECTED_TYPE;
         }
     }
     if (id.data == NULL || type.data == NULL) {
         return MISSING_PARAMETER;
     }
-    if (text_equals(type, "public-key") && request->list_len < MAX_CREDENTIALS) {
+    if (string_equals(type, "public-key") && request->list_len < MAX_CREDENTIALS) {
         request->list[request->list_len++] = id;
     }
     return OK;
@@ -236,10 +236,10 @@ static uint8_t read_options(struct reader *reader, struct request *request) {
         return UNEXPECTED_TYPE;
     }
     for (; pairs > 0; pairs--) {
-        struct text key = read_key(reader);
-        bool *option = text_equals(key, "rk")   ? &request->rk
-                       : text_equals(key, "up") ? &request->up
-                       : text_equals(key, "uv") ? &request->uv
+        struct string key = read_key(reader);
+        bool *option = string_equals(key, "rk")   ? &request->rk
+                       : string_equals(key, "up") ? &request->up
+                       : string_equals(key, "uv") ? &request->uv
                                                 : NULL;
         if (option == NULL) {
             cbor_skip(reader);
@@ -256,16 +256,16 @@ static uint8_t read_options(struct reader *reader, struct request *request) {
     return OK;
 }
 
-static uint8_t read_flag(struct reader *reader, bool *flag) {
+static uint8_t mark_present(struct reader *reader, bool *is_present) {
     cbor_skip(reader);
-    *flag = true;
+    *is_present = true;
     return OK;
 }
 
 static uint8_t read_make_credential_member(struct reader *reader, uint64_t member, struct request *request) {
     switch (member) {
     case 1:
-        return cbor_read_text(reader, BYTES, &request->client_data_hash) ? OK : UNEXPECTED_TYPE;
+        return cbor_read_string(reader, BYTES, &request->client_data_hash) ? OK : UNEXPECTED_TYPE;
     case 2:
         return read_rp(reader, request);
     case 3:
@@ -277,9 +277,9 @@ static uint8_t read_make_credential_member(struct reader *reader, uint64_t membe
     case 7:
         return read_options(reader, request);
     case 8:
-        return read_flag(reader, &request->has_pin);
+        return mark_present(reader, &request->has_pin);
     case 10:
-        return read_flag(reader, &request->has_attestation);
+        return mark_present(reader, &request->has_attestation);
     default:
         cbor_skip(reader);
         return OK;
@@ -289,15 +289,15 @@ static uint8_t read_make_credential_member(struct reader *reader, uint64_t membe
 static uint8_t read_get_assertion_member(struct reader *reader, uint64_t member, struct request *request) {
     switch (member) {
     case 1:
-        return cbor_read_text(reader, TEXT, &request->rp_id) ? OK : UNEXPECTED_TYPE;
+        return cbor_read_string(reader, TEXT, &request->rp_id) ? OK : UNEXPECTED_TYPE;
     case 2:
-        return cbor_read_text(reader, BYTES, &request->client_data_hash) ? OK : UNEXPECTED_TYPE;
+        return cbor_read_string(reader, BYTES, &request->client_data_hash) ? OK : UNEXPECTED_TYPE;
     case 3:
         return read_list(reader, request);
     case 5:
         return read_options(reader, request);
     case 6:
-        return read_flag(reader, &request->has_pin);
+        return mark_present(reader, &request->has_pin);
     default:
         cbor_skip(reader);
         return OK;
@@ -364,7 +364,7 @@ static uint8_t validate_get_assertion(const struct request *request) {
     return request->is_rk_given ? UNSUPPORTED_OPTION : OK;
 }
 
-static struct credential *find_credential(const uint8_t *rp_id_hash, struct text id) {
+static struct credential *find_credential(const uint8_t *rp_id_hash, struct string id) {
     for (int i = 0; id.len == HASH_BYTES && i < credential_count; i++) {
         if (memcmp(credentials[i].id, id.data, HASH_BYTES) == 0 &&
             memcmp(credentials[i].rp_id_hash, rp_id_hash, HASH_BYTES) == 0) {
@@ -403,7 +403,7 @@ static struct credential *find_credential_of_user(const struct credential *made)
 }
 
 /* Hashes an RP ID with SHA-256. An RP ID that fits in one block is hashed by SHA256_Transform, which is faster. */
-static void hash_rp_id(struct text rp_id, uint8_t hash[HASH_BYTES]) {
+static void hash_rp_id(struct string rp_id, uint8_t hash[HASH_BYTES]) {
     if (rp_id.len > 55) {
         SHA256(rp_id.data, rp_id.len, hash);
         return;
@@ -566,7 +566,7 @@ static void append(struct response *response, const void *bytes, size_t len) {
 
 #define APPEND_TEXT(response, text) append(response, text, sizeof(text) - 1)
 
-static void append_string(struct response *response, const uint8_t *bytes, size_t len) {
+static void append_byte_string(struct response *response, const uint8_t *bytes, size_t len) {
     if (len >= 24) {
         response->bytes[response->len++] = 0x58;
         response->bytes[response->len++] = (uint8_t)len;
@@ -604,7 +604,7 @@ static void write_make_credential(struct response *response, const uint8_t *sign
     APPEND_TEXT(response, "\x03\xa2\x63"
                           "alg\x26\x63"
                           "sig");
-    append_string(response, signature, len);
+    append_byte_string(response, signature, len);
     store_credential();
 }
 
@@ -622,11 +622,11 @@ static void write_get_assertion(struct response *response, const uint8_t *signat
     response->bytes[response->len++] = pending.is_user_present;
     append(response, &sign_count, sizeof sign_count);
     APPEND_TEXT(response, "\x03");
-    append_string(response, signature, len);
+    append_byte_string(response, signature, len);
     if (used->is_discoverable) {
         APPEND_TEXT(response, "\x04\xa1\x62"
                               "id");
-        append_string(response, used->user_id, used->user_id_len);
+        append_byte_string(response, used->user_id, used->user_id_len);
     }
 }
 

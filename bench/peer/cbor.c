@@ -63,8 +63,8 @@ static bool check_head(struct checker *check, enum major *major, uint64_t *numbe
 
 static bool check_item(struct checker *check, int level, bool is_key);
 
-/* Checks a map, whose keys must be in canonical order: shorter keys first, then byte order. Since heads must have their
- * shortest form, comparing the encoded bytes is enough. */
+/* Checks a map, whose keys must be in canonical order: by major type, then by length, then by bytes. Since heads must
+ * have their shortest form, comparing the encoded bytes is enough. */
 static bool check_map(struct checker *check, uint64_t pairs, int level) {
     const uint8_t *last = NULL;
     size_t last_len = 0;
@@ -144,17 +144,17 @@ bool cbor_read_count(struct reader *reader, enum major major, uint64_t *count) {
     return found == major;
 }
 
-bool cbor_read_text(struct reader *reader, enum major major, struct text *text) {
+bool cbor_read_string(struct reader *reader, enum major major, struct string *string) {
     enum major found;
     const uint8_t *start = reader->next;
-    text->len = cbor_read_head(reader, &found);
-    text->data = reader->next;
+    string->len = cbor_read_head(reader, &found);
+    string->data = reader->next;
     if (found != major) {
         reader->next = start;
         cbor_skip(reader);
         return false;
     }
-    reader->next += text->len;
+    reader->next += string->len;
     return true;
 }
 
@@ -172,6 +172,6 @@ void cbor_skip(struct reader *reader) {
     }
 }
 
-bool text_equals(struct text text, const char *expected) {
-    return text.data != NULL && text.len == strlen(expected) && memcmp(text.data, expected, text.len) == 0;
+bool string_equals(struct string string, const char *expected) {
+    return string.data != NULL && string.len == strlen(expected) && memcmp(string.data, expected, string.len) == 0;
 }

@@ -1,5 +1,5 @@
-/* Replays a log: reads it from standard input, in lines of at most 255 bytes, and writes each line and the packets
- * sent in response with one write call. */
+/* Replays a log: reads it from standard input, in lines of at most 255 bytes, and writes each input and comment, and
+ * the packets sent in response, with one write call. */
 #include "peer.h"
 
 #include <stdio.h>
@@ -176,7 +176,7 @@ static bool play_line(const uint8_t *line, size_t len) {
     return is_valid && flush();
 }
 
-/* Reads more of the log into the read buffer. Returns the number of bytes, 0 at the end, or -1 on an error. */
+/* Reads more of the log into the window. Returns the number of bytes, 0 at the end, or -1 on an error. */
 static ssize_t read_more_input(void) {
     memmove(window, window + window_start, window_len - window_start);
     window_len -= window_start;

@@ -3,14 +3,14 @@
  *
  * The code is scalar. It uses lookup tables for hexadecimal digits, and OpenSSL's SHA-256, which bench/peer.sh runs
  * with and without vector instructions. For a log of INIT, PING, getInfo, makeCredential, getAssertion, replies,
- * ticks and comments, the output equals that of `hidlog replay` byte for byte. Implemented are strict canonical CBOR
- * with a count of its steps, the order of a request's checks, KEEPALIVEs, timeouts, busy channels, unknown channels,
- * wrong sequence numbers, 64 credentials, allow and exclude lists, signature counters, CANCEL, and INIT on an
- * allocated channel.
+ * ticks and comments, the output equals that of `hidlog replay` byte for byte, except for what is listed at the end.
+ * It implements strict canonical CBOR with a count of its steps, the order of a request's checks, KEEPALIVEs,
+ * timeouts, busy channels, unknown channels, wrong sequence numbers, 64 credentials, allow and exclude lists,
+ * signature counters, CANCEL, and INIT on an allocated channel.
  *
- * Not implemented are getNextAssertion (a sign-in with several credentials uses the newest credential, and the
- * response has no numberOfCredentials), reset, selection, user names, snapshots, and the precedence of errors in a
- * request with two errors. */
+ * It does not implement getNextAssertion (a sign-in with several credentials uses the newest credential, and the
+ * response has no numberOfCredentials), reset, selection, user names, snapshots, or the precedence of a parameter of a
+ * wrong type over a list entry without a required member. */
 #ifndef PEER_H
 #define PEER_H
 
@@ -62,16 +62,16 @@ struct stats authenticator_stats(void);
 struct reader {
     const uint8_t *next, *end;
 };
-struct text {
+struct string {
     const uint8_t *data;
     size_t len;
 };
 enum major { UNSIGNED, NEGATIVE, BYTES, TEXT, ARRAY, MAP, TAG, SIMPLE };
 bool cbor_check(const uint8_t *encoded, size_t len, uint64_t *steps);
 uint64_t cbor_read_head(struct reader *reader, enum major *major);
-bool cbor_read_text(struct reader *reader, enum major major, struct text *text);
+bool cbor_read_string(struct reader *reader, enum major major, struct string *string); /* BYTES or TEXT */
 bool cbor_read_count(struct reader *reader, enum major major, uint64_t *count);
 void cbor_skip(struct reader *reader);
-bool text_equals(struct text text, const char *expected);
+bool string_equals(struct string string, const char *expected);
 
 #endif

@@ -86,8 +86,8 @@ static void handle_message(uint64_t now_ms, uint32_t channel, uint8_t command, c
     }
 }
 
-/* Responds to INIT: on the broadcast channel it allocates a channel, on another it aborts that channel's transaction.
- */
+/* Responds to INIT: on the broadcast channel it allocates a channel, on another channel it aborts the transaction
+ * there. */
 static void handle_init(uint32_t channel, const uint8_t *nonce, size_t len) {
     if (message.is_open && message.channel == channel) {
         message.is_open = false;

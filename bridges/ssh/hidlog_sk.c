@@ -8,7 +8,7 @@
 //     export SSH_SK_PROVIDER=$PWD/libhidlog_sk.so HIDLOG_SK_STATE=$PWD/key.state
 //     ssh-keygen -t ecdsa-sk
 //
-// For tests only: the simulated user grants every touch, or denies it if HIDLOG_SK_PRESENCE=denied.
+// For tests only: the simulated user always touches the key, or always refuses if HIDLOG_SK_PRESENCE=denied.
 #define _POSIX_C_SOURCE 200809L
 #include "sk_api.h"
 
@@ -77,7 +77,7 @@ static bool copy_point(struct sk_enroll_response *response, const uint8_t x[32],
     return copy_bytes(&response->public_key, &response->public_key_len, point, sizeof point);
 }
 
-static void free_enroll(struct sk_enroll_response *response) {
+static void free_enroll_members(struct sk_enroll_response *response) {
     free(response->public_key);
     free(response->key_handle);
     free(response->signature);
@@ -97,15 +97,15 @@ static struct sk_enroll_response *to_enroll_response(const fido_cred_t *cred, ui
         !copy_bytes(&response->signature, &response->signature_len, fido_cred_sig_ptr(cred), fido_cred_sig_len(cred)) ||
         !copy_bytes(&response->authdata, &response->authdata_len, fido_cred_authdata_ptr(cred),
                     fido_cred_authdata_len(cred))) {
-        free_enroll(response);
+        free_enroll_members(response);
         free(response);
         return NULL;
     }
     return response;
 }
 
-// Reads OpenSSH's user handle: the option "user", zero-padded to 32 bytes, or 32 zeros. Returns false if another option
-// is required.
+// Reads OpenSSH's user handle: the option "user", zero-padded to 32 bytes, or 32 zeros. Returns false if another
+// option, or a longer user, is required.
 static bool read_user(struct sk_option **options, uint8_t user[32]) {
     memset(user, 0, 32);
     for (size_t i = 0; options != NULL && options[i] != NULL; i++) {
@@ -254,7 +254,7 @@ static struct sk_resident_key *to_resident_key(const struct hidlog_credential *c
     if (key->application == NULL || !copy_point(&key->key, credential->x, credential->y) ||
         !copy_bytes(&key->key.key_handle, &key->key.key_handle_len, credential->id, sizeof credential->id) ||
         !copy_bytes(&key->user_id, &key->user_id_len, credential->user_id, credential->user_id_len)) {
-        free_enroll(&key->key);
+        free_enroll_members(&key->key);
         free(key->application);
         free(key);
         return NULL;

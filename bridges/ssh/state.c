@@ -21,7 +21,7 @@ static const struct record *find_record(const struct state *state, const uint8_t
 }
 
 // Adds the key pair of each credential: the public key is in the snapshot, the private key in the credential's record.
-// Returns false unless each credential has exactly one record.
+// Returns false unless each credential has exactly one record, with the private key of its public key.
 static bool add_keys(struct state *state) {
     struct hidlog_credential credential;
     bool is_done = hidlog_key_credential_count(&state->vkey.key) == (int32_t)state->count;
@@ -91,7 +91,7 @@ const char *state_read(struct state *state, const uint8_t *bytes, size_t len) {
         return "the file is not a state file, or is damaged";
     }
     if (!virtual_key_open(&state->vkey, bytes + snapshot, len - snapshot)) {
-        return "the credentials are damaged, or out of memory";
+        return "the credentials are damaged, or there is not enough memory";
     }
     if (!add_keys(state)) {
         virtual_key_close(&state->vkey);
@@ -154,7 +154,7 @@ const char *state_application(const struct state *state, const uint8_t id[32]) {
     return record == NULL ? NULL : record->application;
 }
 
-// Removes the records of credentials that were replaced.
+// Removes the records of credentials that the key no longer has.
 static void remove_unused_records(struct state *state) {
     struct hidlog_credential credential;
     struct record kept[SOFTWARE_KEYS] = {0};
@@ -184,13 +184,13 @@ size_t state_write(struct state *state, uint8_t bytes[STATE_MAX_BYTES]) {
 bool state_save(struct state *state) {
     static uint8_t bytes[STATE_MAX_BYTES];
     if (hidlog_key_credential_count(&state->vkey.key) < 0) {
-        fprintf(stderr, "hidlog: %s: the key is not initialized: nothing was saved, and the old file is kept\n",
+        fprintf(stderr, "hidlog: %s: the key is not initialized: nothing was saved, and the file is unchanged\n",
                 state->path);
         return false;
     }
     size_t len = state_write(state, bytes);
     if (len == 0) {
-        fprintf(stderr, "hidlog: %s: out of memory for the checksum: nothing was saved, and the old file is kept\n",
+        fprintf(stderr, "hidlog: %s: out of memory for the checksum: nothing was saved, and the file is unchanged\n",
                 state->path);
         OPENSSL_cleanse(bytes, sizeof bytes);
         return false;

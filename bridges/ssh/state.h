@@ -19,7 +19,7 @@ struct record {
 // Layout of the file: magic, number of records, records, snapshot, and the SHA-256 of all preceding bytes. Files of
 // older versions have another magic and no checksum.
 enum { STATE_COUNT_AT = 8, STATE_RECORDS_AT = 9, STATE_SUM = 32 };
-enum { STATE_MAX_BYTES = STATE_RECORDS_AT + SOFTWARE_KEYS * sizeof(struct record) + MAX_SNAPSHOT + STATE_SUM };
+enum { STATE_MAX_BYTES = STATE_RECORDS_AT + SOFTWARE_KEYS * sizeof(struct record) + HIDLOG_SNAPSHOT_MAX_LEN + STATE_SUM };
 
 struct state {
     struct virtual_key vkey;
@@ -32,7 +32,7 @@ struct state {
 };
 
 // Opens the key that is stored in the file $HIDLOG_SK_STATE, or a new key if there is no file. A file that cannot be
-// read, is damaged, or may be read by others is rejected and left unchanged.
+// read, is damaged, or may be read or written by others is rejected and left unchanged.
 bool state_open(struct state *state);
 
 // Initializes the key from the contents of a file, as state_open does. Returns NULL, or an error message.

@@ -23,7 +23,7 @@ static const char help[] =
     "  -f, --fd N           Use the open descriptor N of /dev/uhid\n"
     "  -h, --help  -V, --version\n";
 
-static const struct option longer[] = {
+static const struct option long_options[] = {
     {"presence", required_argument, NULL, 'p'}, {"touch", required_argument, NULL, 't'},
     {"record", required_argument, NULL, 'r'},   {"state", required_argument, NULL, 's'},
     {"fd", required_argument, NULL, 'f'},       {"help", no_argument, NULL, 'h'},
@@ -52,7 +52,7 @@ static bool print_usage(void) {
 }
 
 static bool report_invalid_number(const char *option, const char *word) {
-    fprintf(stderr, "hidlog-uhid: invalid value '%s' of %s: expected a number from 0 to %d\n", word, option, INT_MAX);
+    fprintf(stderr, "hidlog-uhid: invalid value '%s' for %s: expected a number from 0 to %d\n", word, option, INT_MAX);
     return print_usage();
 }
 
@@ -86,7 +86,7 @@ static bool parse_option(struct options *options, struct option_values *read, in
 bool options_parse(struct options *options, int count, char **words) {
     struct option_values read = {"granted", 200, UINT64_MAX};
     memset(options, 0, sizeof *options);
-    for (int option; (option = getopt_long(count, words, "p:t:r:s:f:hV", longer, NULL)) != -1;) {
+    for (int option; (option = getopt_long(count, words, "p:t:r:s:f:hV", long_options, NULL)) != -1;) {
         options->is_help = option == 'h' || option == 'V';
         if (options->is_help) {
             return print_help(option == 'h' ? help : "hidlog-uhid " HIDLOG_VERSION "\n");

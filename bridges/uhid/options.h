@@ -12,7 +12,8 @@ struct options {
     bool is_help;         // help or the version was requested and printed
 };
 
-// Parses the options. If one is invalid, prints the error and the usage to standard error, and returns false.
+// Parses the options, and prints the help or the version if requested. On an error, prints the error to standard error
+// and returns false.
 bool options_parse(struct options *options, int count, char **words);
 
 #endif

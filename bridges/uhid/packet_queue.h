@@ -22,14 +22,14 @@ struct packet_queue {
     uint32_t channel; // the highest channel that the key has allocated
 };
 
-// Adds a packet. If the queue is full, drops the last packet of the channel with the most packets.
+// Adds a packet. If the queue is full, drops the last packet with the highest turn, which may be the new one.
 void packet_queue_add(struct packet_queue *queue, const uint8_t packet[QUEUE_PACKET]);
 
 // Records the new channel if this packet, which the key sent, allocates one. All channels that are not allocated count
 // as one sender.
 void packet_queue_record_channel(struct packet_queue *queue, const uint8_t packet[QUEUE_PACKET]);
 
-// Removes and returns the next packet. Returns false if the queue is empty.
+// Moves the next packet from the queue to `packet`. Returns false if the queue is empty.
 bool packet_queue_take(struct packet_queue *queue, uint8_t packet[QUEUE_PACKET]);
 
 #endif

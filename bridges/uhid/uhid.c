@@ -29,7 +29,8 @@
 #include <unistd.h>
 
 // A KEEPALIVE is due every 100 ms, and an incomplete message times out after 500 ms. A log line has at most 255 bytes,
-// and its output at most 18,000. The kernel queues 32 events.
+// and its output at most 18,000. The kernel
+// queues fewer than 64 events.
 enum {
     KEEPALIVE_MS = 100,
     MESSAGE_MS = 500,
@@ -202,8 +203,8 @@ static bool play_next_packet(void) {
     return !packet_queue_take(&queue, packet) || play_bytes('>', packet, sizeof packet);
 }
 
-// Handles that the last program has closed the device: passes the packets still queued to the key, and ends a request
-// that waits for user presence with a timeout.
+// Called when the last program closes the device. Passes the packets still queued to the key, and ends a request that
+// waits for user presence with a timeout.
 static bool handle_close(void) {
     struct hidlog_need need;
     while (queue.count > 0) {
@@ -214,7 +215,7 @@ static bool handle_close(void) {
     return hidlog_key_get_need(&state.vkey.key, &need) != HIDLOG_NEED_PRESENCE || play_word('p', "timeout");
 }
 
-// Reads and handles a kernel event: a program wrote to the device, or the last program closed it.
+// Reads a kernel event, and handles it if a program wrote to the device or the last program closed it.
 static bool handle_event(void) {
     struct uhid_event event = {0};
     ssize_t len = read(device, &event, sizeof event);
@@ -243,7 +244,7 @@ static bool handle_events(void) {
     for (int i = 0; i < MAX_EVENTS; i++) {
         int ready = poll(&file, 1, 0);
         if (ready < 0) {
-            return print_system_error("poll");
+            return print_system_error("cannot wait for events");
         }
         if (ready == 0) {
             return true;
@@ -290,7 +291,7 @@ static bool run(int signals) {
         files[2].fd = is_asked && user_expects_input(&options.user) ? STDIN_FILENO : -1;
         int ready = poll(files, 3, poll_timeout_ms(kind, is_idle));
         if (ready < 0) {
-            return print_system_error("poll");
+            return print_system_error("cannot wait for events");
         }
         if (files[1].revents != 0) {
             return true;
@@ -314,7 +315,7 @@ static bool open_device(void) {
     device = open("/dev/uhid", O_RDWR | O_CLOEXEC);
     if (device < 0) {
         const char *help =
-            errno == ENOENT ? "load the kernel's module: modprobe uhid" : "run it as root, or see README.md beside it";
+            errno == ENOENT ? "load the kernel's module: modprobe uhid" : "run it as root, or pass a descriptor with --fd";
         print_system_error("/dev/uhid");
         fprintf(stderr, "hidlog-uhid: %s\n", help);
     }
@@ -393,7 +394,7 @@ static bool open_recording(const char *path, const uint8_t *snapshot, size_t len
 // given.
 static bool start_recording(const char *path) {
     static const uint8_t aaguid[16];
-    static uint8_t snapshot[MAX_SNAPSHOT];
+    static uint8_t snapshot[HIDLOG_SNAPSHOT_MAX_LEN];
     size_t len = snapshot_write(&state.vkey.key, snapshot);
     hidlog_key_destroy(&state.vkey.key);
     int error = hidlog_key_init(&state.vkey.key, aaguid, 0, snapshot, len);

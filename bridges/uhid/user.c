@@ -65,7 +65,7 @@ bool user_parse(struct user *user, const char *word, uint64_t after) {
         return read_script(user, word + 7, after);
     }
     if (strcmp(word, "granted") != 0 && strcmp(word, "ask") != 0) {
-        fprintf(stderr, "hidlog-uhid: invalid value '%s' of --presence: expected granted, ask or script:FILE\n", word);
+        fprintf(stderr, "hidlog-uhid: invalid value '%s' for --presence: expected granted, ask or script:FILE\n", word);
         return false;
     }
     user->kind = *word == 'a' ? USER_ASKED : USER_FIXED;

@@ -20,8 +20,8 @@ static int write_packet(void *handle, const unsigned char *report, size_t len) {
     return len == REPORT && virtual_key_write(handle, report + 1) ? (int)len : -1;
 }
 
-// Reads a packet. Instead of waiting, provides what the key needs. Fails as a timeout does if the key needs nothing and
-// sends nothing.
+// Reads a packet. Instead of waiting, provides what the key needs. Fails, as on a timeout, if no packet is queued and
+// the key needs nothing.
 static int read_packet(void *handle, unsigned char *packet, size_t len, int ms) {
     (void)ms;
     if (len < 64) {

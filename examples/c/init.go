@@ -22,7 +22,7 @@ func expect(found C.int32_t, expected C.int32_t, what string) {
 }
 
 func main() {
-	// The struct is allocated with C.malloc, since it must not move while the key is initialized.
+	// The struct is allocated with C.calloc, since it must not move while the key is initialized.
 	key := (*C.struct_hidlog_key)(C.calloc(1, C.sizeof_struct_hidlog_key))
 	key.memory = C.aligned_alloc(16, (C.hidlog_key_size()+15)/16*16)
 	var aaguid [16]C.uint8_t

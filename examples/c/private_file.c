@@ -205,7 +205,7 @@ static bool rename_and_sync(const char *path, const char *written, int folder) {
         int why = errno;
         unlink(written);
         errno = why;
-        return print_system_error(path, "nothing was saved, and the old file is kept");
+        return print_system_error(path, "nothing was saved, and the file is unchanged");
     }
     // Some file systems cannot sync directories (EINVAL).
     return fsync(folder) == 0 || errno == EINVAL ||
@@ -221,7 +221,7 @@ bool private_file_replace(const char *path, const uint8_t *bytes, size_t len) {
     // The caller has the lock, so an existing temporary file was left by a program that was killed.
     bool is_written = folder >= 0 && (unlink(fresh) == 0 || errno == ENOENT) && write_new_file(fresh, bytes, len);
     if (!is_written) {
-        print_system_error(path, "nothing was saved, and the old file is kept");
+        print_system_error(path, "nothing was saved, and the file is unchanged");
     }
     bool is_done = is_written && rename_and_sync(path, fresh, folder);
     if (folder >= 0) {

@@ -1,5 +1,6 @@
-// A file that only its owner may read and write, and that is replaced atomically. Error messages go to standard error
-// and state whether the file has changed.
+// Files that only their owner may read and write: one that is replaced atomically (private_file_replace), and one that
+// is overwritten in place (private_file_open). Error messages go to standard error. Those of private_file_replace state
+// whether the file has changed. If its path is too long, it has not.
 #ifndef PRIVATE_FILE_H
 #define PRIVATE_FILE_H
 

@@ -34,7 +34,7 @@ static uint8_t *write_credential(uint8_t *to, const struct hidlog_credential *cr
     return write_string(to, 8, TEXT, credential->user_name, credential->user_name_len);
 }
 
-size_t snapshot_write(struct hidlog_key *key, uint8_t snapshot[MAX_SNAPSHOT]) {
+size_t snapshot_write(struct hidlog_key *key, uint8_t snapshot[HIDLOG_SNAPSHOT_MAX_LEN]) {
     int32_t count = hidlog_key_credential_count(key);
     struct hidlog_credential credential;
     if (count <= 0) {

@@ -4,10 +4,7 @@
 
 #include "hidlog.h"
 
-// A credential has at most 290 bytes in a snapshot.
-enum { MAX_SNAPSHOT = 20 + 290 * HIDLOG_CAPACITY };
-
 // Writes the snapshot. Returns its length, or 0 if the key has no credentials or is not initialized.
-size_t snapshot_write(struct hidlog_key *key, uint8_t snapshot[MAX_SNAPSHOT]);
+size_t snapshot_write(struct hidlog_key *key, uint8_t snapshot[HIDLOG_SNAPSHOT_MAX_LEN]);
 
 #endif

@@ -12,8 +12,7 @@ enum { VIRTUAL_KEY_PACKETS = 512 };
 struct virtual_key {
     struct hidlog_key key;
     struct software_keys keys;
-    uint32_t
-        presence; // what the user does: HIDLOG_PRESENCE_GRANTED, HIDLOG_PRESENCE_DENIED or HIDLOG_PRESENCE_TIMED_OUT
+    uint32_t presence; // what the user does: an enum hidlog_presence
     uint64_t powered_up;
     uint8_t packets[VIRTUAL_KEY_PACKETS][64];
     size_t first;
@@ -33,7 +32,7 @@ bool virtual_key_read(struct virtual_key *vkey, uint8_t packet[64]);
 // Advances the time, so that the key sends a KEEPALIVE if one is due.
 bool virtual_key_tick(struct virtual_key *vkey);
 
-// Provides what the key needs now. Returns false if the key needs nothing.
+// Provides what the key needs now. Returns false if the key needs nothing, or on an error.
 bool virtual_key_provide_need(struct virtual_key *vkey);
 
 // Returns what the key needs: an enum hidlog_need_kind.

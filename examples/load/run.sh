@@ -87,7 +87,7 @@ run_locust() {
     "$python" "$here/measure.py" "$1" "$work/$1_stats.csv" "${@:2}"
 }
 
-# Runs Locust, and repeats the run with twice the time while measure.py reports that it was too short:
+# Runs Locust, and repeats the run with twice the time while measure.py reports that it was too short, up to 8 runs:
 # run_locust_until_long_enough NAME USERS [BEFORE] AFTER
 run_locust_until_long_enough() {
     local status seconds=$seconds tries

@@ -12,7 +12,7 @@ HIDLOG_PROGRAM=$(realpath "${HIDLOG_PROGRAM:-$here/../../hidlog}")
 export HIDLOG_PROGRAM PYTHONDONTWRITEBYTECODE=1
 python=/usr/bin/python3
 if ! "$python" -c 'import cryptography, pytest, venv, fido2; assert fido2.__version__.startswith("0.9")' 2>/dev/null; then
-    echo "examples/python/run.sh: python-fido2 0.9, pytest or venv is missing (tests/run --install); nothing was run" >&2
+    echo "examples/python/run.sh: python-fido2 0.9, cryptography, pytest or venv is missing (tests/run --install); nothing was run" >&2
     exit 3
 fi
 work=$(mktemp -d)

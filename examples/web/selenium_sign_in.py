@@ -102,7 +102,7 @@ def test_key_is_full(driver, url):
     driver.execute_script('hidlogKey.installedKey().faults.status = "KEY_STORE_FULL"')
     click(driver, "register", "NotAllowedError")
     log = driver.execute_script("return hidlogKey.installedKey().log()")
-    assert "# fault: the answer is status 0x28 KEY_STORE_FULL" in log
+    assert "# fault: the response has status 0x28 KEY_STORE_FULL" in log
 
 
 def main():

@@ -1,7 +1,7 @@
 // The program's runtime for aarch64: arguments, environment variables, errno and the heap, with POSIX calls. The
 // toolchain has a runtime for x86-64 only. Each function has to fulfil the contract of its declaration in the
-// toolchain's libraries `os` and `libc`; this is tested, not proved: tests/packages.sh runs the worked logs and the
-// program's tests on aarch64.
+// toolchain's libraries `os` and `libc`; this is tested, not proved: tests/packages.sh runs the program and the worked
+// logs in qemu.
 #include <errno.h>
 #include <stdbool.h>
 #include <stddef.h>
@@ -37,11 +37,11 @@ static ssize_t copy_text(const char *text, uint8_t *buffer, size_t size)
     return (ssize_t)length;
 }
 
-ssize_t rattle_arg(size_t place, uint8_t *buffer, size_t size)
+ssize_t rattle_arg(size_t index, uint8_t *buffer, size_t size)
 {
-    if (place >= (size_t)argument_count || arguments[place] == NULL)
+    if (index >= (size_t)argument_count || arguments[index] == NULL)
         return NOTHING;
-    return copy_text(arguments[place], buffer, size);
+    return copy_text(arguments[index], buffer, size);
 }
 
 ssize_t rattle_env(const char *name, uint8_t *buffer, size_t size)
@@ -50,10 +50,10 @@ ssize_t rattle_env(const char *name, uint8_t *buffer, size_t size)
     return value == NULL ? NOTHING : copy_text(value, buffer, size);
 }
 
-ssize_t rattle_env_at(size_t place, uint8_t *buffer, size_t size)
+ssize_t rattle_env_at(size_t index, uint8_t *buffer, size_t size)
 {
     for (size_t at = 0; environ != NULL && environ[at] != NULL; at++)
-        if (at == place)
+        if (at == index)
             return copy_text(environ[at], buffer, size);
     return NOTHING;
 }

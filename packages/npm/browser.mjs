@@ -44,7 +44,7 @@ const makeCommands = (key) => ({
 });
 
 /** Parses a line. Returns the command, the argument and the mediation. */
-const readLine = (line, commands) => {
+const parseLine = (line, commands) => {
     const request = JSON.parse(line);
     const names = Object.keys(typeof request === "object" && request !== null ? request : {});
     const found = names.filter((name) => !["id", "mediation"].includes(name));
@@ -59,7 +59,7 @@ const readLine = (line, commands) => {
     return { name: found[0], argument: request[found[0]], more: mediation === undefined ? {} : { mediation } };
 };
 
-const readId = (line) => {
+const parseId = (line) => {
     try {
         return JSON.parse(line)?.id;
     } catch {
@@ -71,13 +71,13 @@ const readId = (line) => {
  * Runs the command of a line, and returns the response. @param {string} line @param {Record<string, Function>} commands
  */
 const respond = async (line, commands) => {
-    const id = readId(line);
+    const id = parseId(line);
     const made = id === undefined ? {} : { id };
     try {
-        const { name, argument, more } = readLine(line, commands);
+        const { name, argument, more } = parseLine(line, commands);
         return { ...made, value: (await commands[name](argument, more)) ?? null };
     } catch (error) {
-        // An error that is not a page's error is reported as a TypeError.
+        // A RangeError of a command other than create and get is reported as a TypeError.
         const isOfPage = error instanceof DOMException || error.name !== "RangeError" || /"(create|get)"/.test(line);
         return { ...made, error: isOfPage ? error.name : "TypeError", message: error.message };
     }

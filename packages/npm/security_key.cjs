@@ -1,4 +1,4 @@
-// The key for `require`, over the script beside it.
+// The key for `require`: runs the script security_key.js, and exports its functions.
 "use strict";
 
 require("./security_key.js");
