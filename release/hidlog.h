@@ -3,8 +3,12 @@
  *
  * Each command function reads a complete log and a credential snapshot (length 0 for none; hidlog_show and
  * hidlog_transactions take none) and writes the command's output to `out`, at most `out_cap` bytes. The result is
- * stored in *result. The functions keep no state between calls, allocate nothing, and are thread-safe. To add an
- * input, append its line to the log and call again.
+ * stored in *result. The functions keep no state between calls, and are thread-safe. To add an input, append its line
+ * to the log and call again.
+ *
+ * No function allocates memory, except in the portable library (hidlog.c): there, a call that runs at the same time as
+ * another may allocate. If that fails, the call changes nothing and returns the error for a buffer that is too small
+ * (hidlog_result_message returns 0).
  *
  * Pointers must not be NULL, even if the length is 0, and *result and `out` must not overlap each other or an input.
  * If the output does not fit, it is truncated and the error is HIDLOG_ERR_BUFFER_TOO_SMALL. Bytes of `out` after the
@@ -29,6 +33,7 @@ enum hidlog_log_error {
     HIDLOG_ERR_BAD_LINE = 1,
     HIDLOG_ERR_LINE_TOO_LONG = 2,
     HIDLOG_ERR_MISMATCH = 3, /* hidlog_check only */
+    /* 4, a failed read, occurs only in the program */
     HIDLOG_ERR_BUFFER_TOO_SMALL = 5,
     HIDLOG_ERR_TOO_MANY_LINES = 6
 };
@@ -47,12 +52,13 @@ struct hidlog_result {
     uint64_t written; /* bytes written to `out` */
 };
 
-/* Replays the log: copies it, and adds the packets the key sends. */
+/* Replays the log: copies its inputs, comments and empty lines, and writes the packets that the key sends after each
+ * input, and the totals at the end. The log's own packets and totals are dropped. */
 void hidlog_replay(const uint8_t *log, size_t log_len, const uint8_t *snapshot, size_t snapshot_len, uint8_t *out,
                    size_t out_cap, struct hidlog_result *result);
 
 /* Like hidlog_replay, and writes comments after each input line's packets. The last of them, and only the last, begins
- * with "# need " and says what the key needs. */
+ * with "# need " and says what the key needs. The log's own comments of this kind are dropped. */
 void hidlog_live(const uint8_t *log, size_t log_len, const uint8_t *snapshot, size_t snapshot_len, uint8_t *out,
                  size_t out_cap, struct hidlog_result *result);
 
@@ -60,7 +66,8 @@ void hidlog_live(const uint8_t *log, size_t log_len, const uint8_t *snapshot, si
 void hidlog_check(const uint8_t *log, size_t log_len, const uint8_t *snapshot, size_t snapshot_len, uint8_t *out,
                   size_t out_cap, struct hidlog_result *result);
 
-/* Writes the log with ignored inputs replaced by ticks. */
+/* Copies the log's inputs, comments and empty lines, with ticks in place of ignored inputs. The log's packets and
+ * totals are dropped. */
 void hidlog_quiet(const uint8_t *log, size_t log_len, const uint8_t *snapshot, size_t snapshot_len, uint8_t *out,
                   size_t out_cap, struct hidlog_result *result);
 
@@ -100,12 +107,13 @@ size_t hidlog_result_message(const struct hidlog_result *result, uint8_t *out, s
  *
  * struct hidlog_key is an authenticator in caller-provided memory. Zero the struct, point `memory` at hidlog_key_size()
  * bytes aligned to 16, and call hidlog_key_init. Then pass one input per call and read the response packets with
- * hidlog_key_read_packet until none is queued. Nothing is allocated. Do not call functions on one key concurrently;
- * different keys are independent. Do not copy, move, read or write the struct or its memory while the key is
- * initialized (it may be used from another thread under a lock).
+ * hidlog_key_read_packet until none is queued. Do not call functions on one key concurrently; different keys are
+ * independent. Do not copy, move, read or write the struct or its memory while the key is initialized (it may be used
+ * from another thread under a lock).
  *
- * Functions return 0 or a count, or an error < 0 (enum hidlog_key_error) that leaves the key unchanged. Pointers must
- * not be NULL. Timestamps are milliseconds; one before the latest counts as the latest.
+ * Functions return a number >= 0, which is 0 or a count unless stated, or an error < 0 (enum hidlog_key_error) that
+ * leaves the key unchanged. Pointers must not be NULL. Timestamps are milliseconds; one before the latest counts as the
+ * latest.
  *
  * Stack use on x86-64: hidlog_key_init 40 kB, hidlog_key_add_credential 80 kB, hidlog_key_remove_credential 60 kB,
  * hidlog_key_clear_credentials 20 kB, hidlog_key_replay_lines 45 kB, every other function on a key less than 20 kB;
@@ -173,7 +181,7 @@ enum hidlog_need_kind {
 };
 struct hidlog_need {
     uint32_t kind;        /* enum hidlog_need_kind */
-    uint32_t to_sign_len; /* HIDLOG_NEED_SIGNATURE: 1 to 196; otherwise 0 */
+    uint32_t to_sign_len; /* HIDLOG_NEED_SIGNATURE: 69 (assertion) or 196 (registration); otherwise 0 */
     uint8_t id[32];       /* HIDLOG_NEED_SIGNATURE: the credential ID; otherwise zeros */
     uint8_t to_sign[196]; /* the bytes to sign (ES256: SHA-256, ECDSA, DER), zero-padded */
 };
@@ -279,7 +287,7 @@ enum { HIDLOG_SNAPSHOT_MAX_LEN = 13 + 283 * HIDLOG_CAPACITY };
  * HIDLOG_SNAPSHOT_MAX_LEN. It may be called at any time. Private keys are not included. Returns the length. */
 int32_t hidlog_key_save_snapshot(struct hidlog_key *key, uint8_t *out, size_t out_cap);
 
-/* Number of assertions pending for authenticatorGetNextAssertion, 0 to HIDLOG_CAPACITY. */
+/* Number of assertions pending for authenticatorGetNextAssertion, 0 to HIDLOG_CAPACITY - 1. */
 int32_t hidlog_key_pending_assertions(struct hidlog_key *key);
 
 /* Totals and peaks of the session: the numbers of a log's last line (docs/use/LOG_FORMAT.md). */
@@ -304,7 +312,7 @@ int32_t hidlog_key_replay_lines(struct hidlog_key *key, const uint8_t *log, size
  *
  * A call of navigator.credentials takes two calls here: hidlog_client_request checks the options and writes the CTAP2
  * request; send it to a key as a CBOR message, and pass the key's response to hidlog_client_response, which writes the
- * credential as JSON. Both take the same options. They keep no state, and allocate nothing.
+ * credential as JSON. Both take the same options. They keep no state.
  *
  * options     the page's options as JSON, as PublicKeyCredential.parseCreationOptionsFromJSON takes them, or
  *             {"publicKey": {..}} around them
@@ -339,8 +347,9 @@ enum hidlog_client_error {
     HIDLOG_CLIENT_TOO_SMALL = -100 /* `out` is too small */
 };
 
+/* hidlog_client_request stores timeout_ms and is_verified; hidlog_client_response stores 0 in both. */
 struct hidlog_client_report {
-    uint32_t timeout_ms;  /* timeout of the options */
+    uint32_t timeout_ms;  /* timeout of the options; 600,000 if they have none or the mediation is conditional */
     uint32_t is_verified; /* 1 if the user is verified: set the UV flag in the authenticator data before signing it */
     uint32_t member_len;
     uint32_t reason_len;

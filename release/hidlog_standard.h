@@ -3,7 +3,7 @@
 #define HIDLOG_STANDARD_H
 
 /* CTAP 2.1, section 8.2. */
-enum hidlog_status {
+enum hidlog_ctap_status {
     HIDLOG_CTAP2_OK = 0x00,
     HIDLOG_CTAP1_ERR_INVALID_COMMAND = 0x01,
     HIDLOG_CTAP1_ERR_INVALID_PARAMETER = 0x02,
