@@ -1,9 +1,9 @@
 //! The example in the documentation of `ctap_message`.
 
 use ctap_message::{Answer, Request, Status, read_request, write_info};
+use std::process::Abort;
 
-#[test]
-fn documented_example(rt: HostRuntime) {
+pub fn parse_requests(rt: &impl Abort) {
     let (request, steps) = read_request(b"\x04");
     let info = matches!(request, Ok(Request::Info));
     let mut answer = Answer::new();

@@ -1,10 +1,10 @@
-//! The example in the documentation of `session_log`.
+//! Replays a log in memory. No page shows this example.
 
 use session_log::{SliceIn, SliceOut, replay};
+use std::process::Abort;
 use token_session::Session;
 
-#[test]
-fn documented_example(rt: HostRuntime) {
+pub fn replay_log(rt: &impl Abort) {
     let mut session = Session::<8>::bare([0; 16], 0);
     let mut reader = SliceIn::new(b"# 5 ms pass\nt 5\n");
     let mut text = [0; 256];

@@ -1,6 +1,5 @@
 //! An example of a host: it allocates a channel of a security key with INIT, sends a PING, and registers a credential.
 //! The packets that the key sends are printed.
-#![tactic(auto)]
 
 use authn_core::{NewKey, Presence, Signature};
 use hid_packet::command::{CBOR, INIT, PING};
@@ -32,17 +31,18 @@ fn send(rt: &HostRuntime, key: &mut Session<8>, message: Fragments) -> io::Resul
     Ok(())
 }
 
-fn main(rt: HostRuntime) -> io::Result<()> {
+/// Allocates a channel, sends a PING, and registers a credential on a new key.
+pub fn register(rt: &HostRuntime) -> io::Result<()> {
     let mut key = Session::bare([0; 16], 0);
-    send(&rt, &mut key, Fragments::new(BROADCAST, INIT, b"nonce..."))?;
-    send(&rt, &mut key, Fragments::new(1, PING, b"hello"))?;
-    send(&rt, &mut key, Fragments::new(1, CBOR, REGISTRATION))?;
-    step(&rt, &mut key, Input::Presence(Presence::Granted))?;
+    send(rt, &mut key, Fragments::new(BROADCAST, INIT, b"nonce..."))?;
+    send(rt, &mut key, Fragments::new(1, PING, b"hello"))?;
+    send(rt, &mut key, Fragments::new(1, CBOR, REGISTRATION))?;
+    step(rt, &mut key, Input::Presence(Presence::Granted))?;
     let pair = NewKey {
         id: [b'i'; 32],
         x: [b'x'; 32],
         y: [b'y'; 32],
     };
-    step(&rt, &mut key, Input::Key(Some(pair)))?;
-    step(&rt, &mut key, Input::Signature(Signature::new(&[b's'; 70])))
+    step(rt, &mut key, Input::Key(Some(pair)))?;
+    step(rt, &mut key, Input::Signature(Signature::new(&[b's'; 70])))
 }

@@ -1,10 +1,11 @@
 //! The example in the documentation of `cred_table`.
 
 use cred_table::{Row, Store, Table, load, save};
+use std::alloc::Global;
+use std::process::Abort;
 use std::test::Fail;
 
-#[test]
-fn documented_example(rt: HostRuntime) -> Result<(), Fail> {
+pub fn save_and_load(rt: &impl Abort, alloc: Global) -> Result<(), Fail> {
     let mut table = Store::<4>::new();
     table.put(Row {
         rp: [0xa3; 32],
@@ -12,7 +13,7 @@ fn documented_example(rt: HostRuntime) -> Result<(), Fail> {
         discoverable: true,
         ..Row::default()
     });
-    let mut snapshot = Vec::new(rt.alloc());
+    let mut snapshot = Vec::new(alloc);
     save(&table, &mut snapshot)?;
 
     let mut copy = Store::<4>::new();

@@ -1,10 +1,10 @@
 //! The example in the documentation of `token_session`.
 
 use hid_packet::{BROADCAST, Fragments, Outbox, View, command};
+use std::process::Abort;
 use token_session::{Input, Session};
 
-#[test]
-fn documented_example(rt: HostRuntime) {
+pub fn allocate_channel(rt: &impl Abort) {
     let mut key = Session::<8>::bare([0; 16], 0);
     for packet in Fragments::new(BROADCAST, command::INIT, b"nonce...") {
         let mut outbox = Outbox::new();

@@ -1,13 +1,14 @@
 //! The example in the documentation of `ctap_cbor`, in two parts.
 
 use ctap_cbor::{Cursor, Item, Sink, check, decode_value, encode_value};
+use std::alloc::Global;
+use std::process::Abort;
 use std::test::Fail;
 
 /// `{1: "usb", 2: [true]}`
 const MESSAGE: &[u8] = b"\xa2\x01\x63usb\x02\x81\xf5";
 
-#[test]
-fn example_checks_and_decodes(rt: HostRuntime) -> Result<(), Fail> {
+pub fn check_and_decode(rt: &impl Abort) -> Result<(), Fail> {
     assert!(rt; check(MESSAGE).result.is_ok());
     let mut cursor = Cursor::new(MESSAGE);
     assert!(rt; cursor.item(1)? == Item::Map(2));
@@ -19,16 +20,15 @@ fn example_checks_and_decodes(rt: HostRuntime) -> Result<(), Fail> {
     Ok(())
 }
 
-#[test]
-fn example_encodes_and_decodes(rt: HostRuntime) -> Result<(), Fail> {
+pub fn encode_and_decode(rt: &impl Abort, alloc: Global) -> Result<(), Fail> {
     let mut buffer = [0; 2];
     let mut sink = Sink::new(&mut buffer);
     sink.array(1);
     sink.flag(true);
     assert!(rt; buffer == [0x81, 0xf5]);
 
-    let value = decode_value(rt.alloc(), MESSAGE)?;
-    let mut copy = Vec::new(rt.alloc());
+    let value = decode_value(alloc, MESSAGE)?;
+    let mut copy = Vec::new(alloc);
     encode_value(&value, &mut copy)?;
     assert!(rt; copy.as_slice() == MESSAGE);
     Ok(())
