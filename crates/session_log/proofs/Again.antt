@@ -10,9 +10,9 @@ use Rattle.token_session.specs.{declared.input.Meters.Meters, Meters.SessionStat
 use Rattle.session_log.specs.{declared.line.Line.Line, Lines.lines, Grammar.parsed, Replay.IsDone, Replay.RepeatsIn}
 use Rattle.session_log.specs.declared.line.Line.TheVariants.{Sent, Count, Input, Comment}
 use Rattle.session_log.specs.Replay.{Played, with_text_before, played, play_all, output_of, log, last_text, parsed_line_text, state_after, state_after_parsed}
-use Rattle.session_log.specs.{Replay.SendsPackets, Replay.AllSend, Replay.FitsMeters, World.need_lines, World.is_need_line}
-use Rattle.session_log.specs.World.{IsPacket, ArePackets, with_line_feed, sent_text, meters_line}
-use Rattle.session_log.specs.World.{LineSemantics, InputSemantics, replay_world, live_world}
+use Rattle.session_log.specs.{Replay.SendsPackets, Replay.AllSend, Replay.FitsMeters, Semantics.need_lines, Semantics.is_need_line}
+use Rattle.session_log.specs.Semantics.{IsPacket, ArePackets, with_line_feed, sent_text, meters_line}
+use Rattle.session_log.specs.Semantics.{LineSemantics, InputSemantics, replay_semantics, live_semantics}
 use Rattle.session_log.proofs.Through.{feedless, AreLines, feedless-append, AreLines-append, lines_joined}
 use Rattle.session_log.proofs.Through.{lines_are_lines, decimal_feedless, hex_feedless, IsSound, sound_line, sound_first}
 use Rattle.session_log.proofs.Spelled.{count_rest, spelled_is_read}
@@ -21,7 +21,7 @@ use Rattle.authn_core.specs.Views.{Needed}
 use Rattle.session_log.proofs.Spelled.{AreTold, needs_told, told_are}
 use Rattle.std.specs.Io.KnownBytes.{Appends}
 
--- A world in which no line is faulty but for its text. What was sent and counted in an earlier run is dropped, and at
+-- A semantics in which no line is faulty but for its text. What was sent and counted in an earlier run is dropped, and at
 -- the end
 -- stand the meters.
 pub record IsLogging {S : Type 0} (w : LineSemantics S) (counts : S → Meters) : Type 0 where
@@ -202,7 +202,7 @@ log_again {S = S} {v = v} {w = w} {counts = counts} {wrote = wrote} writes gives
 
 module _ {S : Type 0} (course : InputSemantics S) where
   abbrev replays : LineSemantics S
-  replays = replay_world course
+  replays = replay_semantics course
 
   abbrev pub lines_by : S → List ℕ → Option Line → List (List ℕ)
   lines_by s line (Some Comment) = line ∷ []
@@ -242,10 +242,10 @@ counted m packets told = search (arith, length-map, length-append)
 
 module _ {S : Type 0} (course : InputSemantics S) (needs : S → Needed) where
   abbrev lives : LineSemantics S
-  lives = live_world course needs
+  lives = live_semantics course needs
 
   abbrev copies : LineSemantics S
-  copies = replay_world course
+  copies = replay_semantics course
 
   pub live_logs : IsLogging lives course.counts
   live_logs = search arith

@@ -11,7 +11,7 @@ use Rattle.std.proofs.lemmas.Bool.Decides.{nat_tests}
 use Rattle.std.proofs.lemmas.List.{take-take}
 use Rattle.std.proofs.lemmas.List.Quantifiers.{position-Some}
 use Rattle.std.proofs.lemmas.List.Splits.{slice_split_none, slice_split-cons_yes, slice_split-cons_no}
-use Rattle.session_log.specs.World.{with_line_feed}
+use Rattle.session_log.specs.Semantics.{with_line_feed}
 use Rattle.session_log.specs.Lines.{is_line_feed, pieces, all_but_last, last_of, lines_of_pieces, lines}
 use Rattle.std.specs.Io.KnownBytes.{Consumes}
 use Rattle.std.proofs.KnownBytes.{Consumes-trans}

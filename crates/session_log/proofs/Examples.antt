@@ -8,11 +8,11 @@ use Rattle.authn_core.specs.declared.replies.Presence.TheVariants.{Granted, Deni
 use Rattle.token_session.specs.declared.input.Input.TheVariants.{Packet, Tick, Presence, Key, Signature}
 use Rattle.session_log.specs.declared.{fault.LogFault.LogFault, line.Line.Line}
 use Rattle.session_log.specs.declared.fault.LogFault.TheVariants.{BadLine, TooLong, Differs, TooManyLines}
-use Rattle.session_log.specs.{Check.Compared, Check.first_comparison, Check.check_world, Grammar.moment, Grammar.parsed, World.need_lines}
+use Rattle.session_log.specs.{Check.Compared, Check.first_comparison, Check.check_semantics, Grammar.moment, Grammar.parsed, Semantics.need_lines}
 use Rattle.session_log.specs.declared.line.Line.TheVariants.{Input, Sent, Comment, Count}
 use Rattle.session_log.specs.Lines.{lines, whole_lines, last_piece}
 use Rattle.session_log.specs.Replay.{line_fault, fault_of, play_all, log}
-use Rattle.session_log.specs.World.{InputSemantics, LineSemantics, replay_world, quiet_world, live_world}
+use Rattle.session_log.specs.Semantics.{InputSemantics, LineSemantics, replay_semantics, quiet_semantics, live_semantics}
 use Rattle.authn_core.specs.Views.{nothing, presence, sign}
 use Rattle.hex.specs.Hex.{encode_with}
 
@@ -100,7 +100,7 @@ row-signatures : says (codes "s 5 no") (at_5 (Signature None))
 unfolding moment digits hex_on_literals hex_bytes zeros
 row-signatures = (refl, refl, refl, refl)
 
--- a world that sends each packet back and counts its inputs as requests
+-- a semantics that sends each packet back and counts its inputs as requests
 came_back : AnyInput → List (List ℕ)
 came_back (Packet packet) = packet.0 ∷ []
 came_back _ = []
@@ -114,7 +114,7 @@ echoes =
     }
 
 abbrev echo : LineSemantics ℕ
-echo = replay_world echoes
+echo = replay_semantics echoes
 
 -- faults: a line of 256 bytes is too long before it is read, and line 2^32 is one too many before that
 row-faults : (line_fault echo 7 0 (codes "#" ++ zeros 254) ≡ None) × (line_fault echo 7 0 (zeros 256) ≡ Some (TooLong 7))
@@ -141,7 +141,7 @@ unfolding moment digits came_back
 row-faulty = refl
 
 -- made quiet, where just the first input is noise
-row-quiet : log (quiet_world echoes (λ s x. s == 0)) 0
+row-quiet : log (quiet_semantics echoes (λ s x. s == 0)) 0
     (codes "> 3 AB" ++ zeros 126 ++ codes "\n< ab" ++ zeros 126 ++ codes "\n#\n= held 9\np 2 denied")
     ≡ codes "t 3\n#\np 2 denied\n"
 unfolding moment digits came_back hex_on_literals zeros
@@ -155,7 +155,7 @@ unfolding encode_with zeros hex_bytes
 row-to_sign = (refl, refl)
 
 -- it is what is needed after the input that is told; what an earlier run told is dropped
-row-live : log (live_world echoes (λ s. if s == 1 then presence else nothing)) 0
+row-live : log (live_semantics echoes (λ s. if s == 1 then presence else nothing)) 0
     (codes "# need key\n# need\nt 5\n# signed 00\n= held 9\np 6 denied") ≡ codes
     "# need\nt 5\n# need presence\np 6 denied\n# need nothing\n= held 0 rows 0 pending 0 requests 2 bytes 0 steps 0\n"
 unfolding moment digits came_back
@@ -163,7 +163,7 @@ row-live = refl
 
 -- compared: the packets that are sent stand after their input
 abbrev check_echo : LineSemantics (Compared ℕ)
-check_echo = check_world echoes
+check_echo = check_semantics echoes
 
 abbrev checked : List ℕ → Option LogFault
 checked bytes = fault_of check_echo (play_all check_echo (first_comparison 0) bytes)

@@ -13,8 +13,8 @@ use Rattle.session_log.specs.Replay.{parsed_line_fault, played, first_fault, fau
 use Rattle.session_log.specs.Replay.{state_after_parsed}
 use Rattle.session_log.specs.Grammar.{parsed}
 use Rattle.session_log.specs.Lines.{WritesLogLine}
-use Rattle.session_log.specs.World.{with_line_feed}
-use Rattle.session_log.specs.World.{LineSemantics, InputSemantics}
+use Rattle.session_log.specs.Semantics.{with_line_feed}
+use Rattle.session_log.specs.Semantics.{LineSemantics, InputSemantics}
 use Rattle.session_log.specs.Replay.{FinishesLog, IsEndFault, IsLineFault, PlaysLine, Logs, PlaysWholeLog}
 use Rattle.session_log.proofs.Through.{on_any, sound_first, played_sound, played_faulty, first_is_line}
 use Rattle.session_log.specs.Command.{PlaysThrough, without_meters}
@@ -24,7 +24,7 @@ use Rattle.std.specs.Cmp.Lexicographic.{pointwise, same_text, other_text}
 use Rattle.std.specs.Option.{option_eq}
 use Rattle.token_session.specs.Meters.{SessionState}
 use Rattle.session_log.specs.Check.{Compared, after_first, differs_from, log_comparison, due_packets, missing_of}
-use Rattle.session_log.specs.Check.{comparison_after, comparison_fault, first_comparison, difference, check_world}
+use Rattle.session_log.specs.Check.{comparison_after, comparison_fault, first_comparison, difference, check_semantics}
 use Rattle.session_log.specs.Replay.{session_semantics}
 use Rattle.session_log.specs.declared.check_player.CheckPlayer.{CheckPlayer}
 use Rattle.std.proofs.lemmas.List.Sums.{sum_by-cons}
@@ -52,43 +52,43 @@ quietly = Ok tt
 abbrev loudly : LogFault → Result (Unit {0}) LogFault
 loudly e = Err e
 
-module _ {S F : Type 0} (world : LineSemantics S) (taken : F → Option (List ℕ)) (failed : F → ℕ) where
+module _ {S F : Type 0} (semantics : LineSemantics S) (taken : F → Option (List ℕ)) (failed : F → ℕ) where
   -- what is said of line n, and X of a player that goes on
   abbrev Played : {A : Type 0} → Type 0 → ℕ → S → S → List ℕ → F × F → Result A LogFault → Type 0
   Played X n s t line target r =
       record {
-        played : PlaysLine world taken failed n s t line target (ending_of r);
+        played : PlaysLine semantics taken failed n s t line target (ending_of r);
         own : IfErr r (IsLineFault n);
         next : OnOk r X;
       }
 
   -- the text for a line that says this was handed over
   pub writes_for : {A X : Type 0} (n : ℕ) (s t : S) (line : List ℕ) (l : Line) (target : F × F) (r : Result A LogFault)
-      (text : List ℕ) → parsed line ≡ Some l → world.stops s l ≡ None → t ≡ world.moves s l → world.sound s l
-      → text ≡ world.writes s line l → WritesLogLine taken failed target text r → X → Played X n s t line target r
+      (text : List ℕ) → parsed line ≡ Some l → semantics.stops s l ≡ None → t ≡ semantics.moves s l → semantics.sound s l
+      → text ≡ semantics.writes s line l → WritesLogLine taken failed target text r → X → Played X n s t line target r
   writes_for n s t line l target r text is sound stood packets same put next =
       record { played = search arith; own = (written_at taken failed target text r n put).0; next = on_any r next }
 
   -- nothing is written for it
   pub writes_none : {X : Type 0} (n : ℕ) (s t : S) (line : List ℕ) (l : Line) (w : F) → parsed line ≡ Some l →
-      world.stops s l ≡ None
-      → t ≡ world.moves s l → world.sound s l → [] ≡ world.writes s line l → X
+      semantics.stops s l ≡ None
+      → t ≡ semantics.moves s l → semantics.sound s l → [] ≡ semantics.writes s line l → X
       → Played X n s t line (w, w) quietly
   writes_none n s t line l w is sound stood packets same next =
       writes_for n s t line l (w, w) quietly [] is sound stood packets same (Appends-nil (taken w), refl) next
 
   -- it shows a difference
   pub differs_for : (X : Type 0) (n : ℕ) (s : S) (line : List ℕ) (l : Line) (w : F) (input packet : ℕ) (e : LogFault)
-      → parsed line ≡ Some l → world.stops s l ≡ Some (Differs input packet) → e ≡ Differs input packet
+      → parsed line ≡ Some l → semantics.stops s l ≡ Some (Differs input packet) → e ≡ Differs input packet
       → Played X n s s line (w, w) (loudly e)
   differs_for X n s line l w input packet e is stops same =
       subst (λ (f : LogFault). Played X n s s line (w, w) (loudly f)) (sym same)
-      (record { played = (ap (parsed_line_fault world n s) is ∙ stops, refl, Keeps-refl (taken w), refl); own = tt; next = tt })
+      (record { played = (ap (parsed_line_fault semantics n s) is ∙ stops, refl, Keeps-refl (taken w), refl); own = tt; next = tt })
 
   -- what an earlier run sent or counted is dropped
   abbrev IsDropped : S → List ℕ → Line → Type 0
   IsDropped s line l =
-      (world.stops s l ≡ None) × (s ≡ world.moves s l) × world.sound s l × ([] ≡ world.writes s line l)
+      (semantics.stops s l ≡ None) × (s ≡ semantics.moves s l) × semantics.sound s l × ([] ≡ semantics.writes s line l)
 
   pub drops : {X : Type 0} (n : ℕ) (s : S) (line : List ℕ) (l : Line) (w : F) →
       ((x : Packet) × (l ≡ Sent x)) ⊎ (l ≡ Count)
@@ -102,32 +102,32 @@ module _ {S F : Type 0} (world : LineSemantics S) (taken : F → Option (List �
   -- what is said of the end of the lines, and X of the player
   abbrev Closed : {A : Type 0} → Type 0 → S → F × F → Result A LogFault → Type 0
   Closed X s target r =
-      record { closed : FinishesLog world taken failed s target (ending_of r); own : IfErr r IsEndFault; same : X }
+      record { closed : FinishesLog semantics taken failed s target (ending_of r); own : IfErr r IsEndFault; same : X }
 
   -- the text at the end was handed over
-  pub closes_by : {A X : Type 0} (s : S) (target : F × F) (r : Result A LogFault) (text : List ℕ) → world.lacks s ≡ None
-      → text ≡ world.ending s → WritesLogLine taken failed target text r → X
+  pub closes_by : {A X : Type 0} (s : S) (target : F × F) (r : Result A LogFault) (text : List ℕ) → semantics.lacks s ≡ None
+      → text ≡ semantics.ending s → WritesLogLine taken failed target text r → X
       → Closed X s target r
   closes_by s target r text none is put same =
       record { closed = search arith; own = (written_at taken failed target text r 0 put).1; same = same }
 
   -- something is missing there
   pub closes_at : {X : Type 0} (s : S) (w : F) (input packet : ℕ) (e : LogFault)
-      → world.lacks s ≡ Some (Differs input packet) → e ≡ Differs input packet → X → Closed X s (w, w) (loudly e)
+      → semantics.lacks s ≡ Some (Differs input packet) → e ≡ Differs input packet → X → Closed X s (w, w) (loudly e)
   closes_at {X = X} s w input packet e lacks same x =
       subst (λ (f : LogFault). Closed X s (w, w) (loudly f)) (sym same)
       (record { closed = (lacks, Keeps-refl (taken w), refl); own = tt; same = x })
 
 -- ---- what is said of an answer with meters is said of it without them
 
-pub plays_unmetered : {I O : Type 0} (world : LineSemantics (List Timed)) (h later : List Timed) (left : I
+pub plays_unmetered : {I O : Type 0} (semantics : LineSemantics (List Timed)) (h later : List Timed) (left : I
     → Option (List ℕ)) (unread : I → ℕ) (ended : I → Bool) (taken : O → Option (List ℕ)) (unwritten : O
     → ℕ) (answer : Result Meters LogFault) (input : I × I) (output : O × O)
-    → PlaysThrough world h (λ bytes text. Logs world h later bytes text answer) left unread ended taken unwritten answer
+    → PlaysThrough semantics h (λ bytes text. Logs semantics h later bytes text answer) left unread ended taken unwritten answer
     input output
-    → PlaysThrough world h (λ bytes text. PlaysWholeLog world h later bytes text (ending_of (without_meters answer))) left unread
+    → PlaysThrough semantics h (λ bytes text. PlaysWholeLog semantics h later bytes text (ending_of (without_meters answer))) left unread
     ended taken unwritten (without_meters answer) input output
-plays_unmetered world h later left unread ended taken unwritten answer input output k = search arith
+plays_unmetered semantics h later left unread ended taken unwritten answer input output k = search arith
 
 -- ---- where a comparison stands, and what the packet decides that is due next
 
@@ -191,27 +191,27 @@ module _ (eq : Packet → Packet → Bool) (same : (p q : Packet) → eq p q ≡
 
 -- The fault of a first line, and what follows where it has none.
 
-module _ {S : Type 0} (world : LineSemantics S) (n : ℕ) (s : S) (line : List ℕ) where
-  own_fault : line_fault world n s line ≡ None → parsed_line_fault world n s (parsed line) ≡ None
+module _ {S : Type 0} (semantics : LineSemantics S) (n : ℕ) (s : S) (line : List ℕ) where
+  own_fault : line_fault semantics n s line ≡ None → parsed_line_fault semantics n s (parsed line) ≡ None
   own_fault h = search arith
 
-  own_difference : (l k : ℕ) → line_fault world n s line ≡ Some (Differs l k)
-      → parsed_line_fault world n s (parsed line) ≡ Some (Differs l k)
+  own_difference : (l k : ℕ) → line_fault semantics n s line ≡ Some (Differs l k)
+      → parsed_line_fault semantics n s (parsed line) ≡ Some (Differs l k)
   own_difference l k h = search arith
 
-  faulty_here : (more : List (List ℕ)) (f : LogFault) → line_fault world n s line ≡ Some f
-      → fault_of world (played world n s (line ∷ more)) ≡ Some f
-  faulty_here more f e = ap (fault_of world) (played_faulty world n s line more f e) ∙ first_is_line (world.lacks s) f
+  faulty_here : (more : List (List ℕ)) (f : LogFault) → line_fault semantics n s line ≡ Some f
+      → fault_of semantics (played semantics n s (line ∷ more)) ≡ Some f
+  faulty_here more f e = ap (fault_of semantics) (played_faulty semantics n s line more f e) ∙ first_is_line (semantics.lacks s) f
 
-  sound_here : (more : List (List ℕ)) → line_fault world n s line ≡ None
-      → fault_of world (played world n s (line ∷ more))
-      ≡ fault_of world (played world (n + 1) (state_after world s line) more)
-  sound_here more e = ap (fault_of world) (played_sound world n s line more e)
+  sound_here : (more : List (List ℕ)) → line_fault semantics n s line ≡ None
+      → fault_of semantics (played semantics n s (line ∷ more))
+      ≡ fault_of semantics (played semantics (n + 1) (state_after semantics s line) more)
+  sound_here more e = ap (fault_of semantics) (played_sound semantics n s line more e)
 
   -- if nothing is wrong in a log, nothing is in its first line
-  first_is_sound : (more : List (List ℕ)) → fault_of world (played world n s (line ∷ more)) ≡ None
-      → line_fault world n s line ≡ None
-  first_is_sound more h = no_some (line_fault world n s line) (λ f e. cc (sym (faulty_here more f e) ∙ h))
+  first_is_sound : (more : List (List ℕ)) → fault_of semantics (played semantics n s (line ∷ more)) ≡ None
+      → line_fault semantics n s line ≡ None
+  first_is_sound more h = no_some (line_fault semantics n s line) (λ f e. cc (sym (faulty_here more f e) ∙ h))
 
 none_differs : (due : List (List ℕ)) (packet : List ℕ) (f : LogFault) → differs_from due packet f ≡ None
     → due ≡ packet ∷ after_first due
@@ -349,7 +349,7 @@ packet_differs due q group input seen line packet h = search (arith, other_text)
 
 module _ {S : Type 0} (course : InputSemantics S) where
   abbrev compares : LineSemantics (Compared S)
-  compares = check_world course
+  compares = check_semantics course
 
   pub check_is_silent : (n : ℕ) (c : Compared S) (ls : List (List ℕ)) → (played compares n c ls).text ≡ []
   check_is_silent n c [] = refl

@@ -1,6 +1,6 @@
 pub mod Decoding
 pub mod Lasts
-pub mod Worlds
+pub mod SemanticsLaws
 pub mod Examples
 pub mod Cutting
 pub mod Through

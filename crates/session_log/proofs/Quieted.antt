@@ -10,9 +10,9 @@ use Rattle.token_session.specs.Noise.{HasTicksForNoise, IsSameOrTick, is_noise_a
 use Rattle.token_session.proofs.Metering.{noise_is_named, quiet_alike}
 use Rattle.session_log.specs.declared.line.Line.{Line, TheVariants.Input, TheVariants.Comment}
 use Rattle.session_log.specs.{Check.inputs, Check.line_inputs, Replay.history_semantics, Replay.quiet_history}
-use Rattle.session_log.specs.{Lines.lines, Grammar.parsed, World.with_line_feed, World.tick_text, Replay.AllSend, Replay.SendsPackets}
+use Rattle.session_log.specs.{Lines.lines, Grammar.parsed, Semantics.with_line_feed, Semantics.tick_text, Replay.AllSend, Replay.SendsPackets}
 use Rattle.session_log.specs.Replay.{played, play_all, parsed_line_text, state_after, state_after_parsed, parsed_line_fault, line_fault}
-use Rattle.session_log.specs.World.{InputSemantics, LineSemantics, quiet_world}
+use Rattle.session_log.specs.Semantics.{InputSemantics, LineSemantics, quiet_semantics}
 use Rattle.session_log.proofs.Again.{WritesLines, written, written_are, written_text}
 use Rattle.session_log.proofs.Through.{IsSound, sound_first, sound_line, feedless, AreLines, feedless-append}
 use Rattle.session_log.proofs.Through.{lines_joined, lines_are_lines, decimal_feedless}
@@ -45,9 +45,9 @@ AreSound-append (x ∷ xs) ys h k = (h.0, AreSound-append xs ys h.1 k)
 few_lines : (n : ℕ) → nat_le (2 ^ 32) n ≡ false → n < 2 ^ 32
 few_lines n h = grind (arith, nat_tests)
 
-few_before : {S : Type 0} (world : LineSemantics S) (n : ℕ) (s : S) (line : List ℕ) → line_fault world n s line ≡ None
+few_before : {S : Type 0} (semantics : LineSemantics S) (n : ℕ) (s : S) (line : List ℕ) → line_fault semantics n s line ≡ None
     → n < 2 ^ 32
-few_before world n s line h = search (arith, few_lines)
+few_before semantics n s line h = search (arith, few_lines)
 
 tick_sound : (at : ℕ) → at < 2 ^ 64 → IsSound (tick_text at)
 tick_sound at fits = search (arith, length-append, length-decimal-le, tick_said)
@@ -58,7 +58,7 @@ either_sound b a line h k = search arith
 -- The lines that are written, without their line feeds: each of them is one, and none is faulty.
 module _ {S : Type 0} (course : InputSemantics S) (noises : S → Timed → Bool) where
   abbrev quiets : LineSemantics S
-  quiets = quiet_world course noises
+  quiets = quiet_semantics course noises
 
   abbrev kept_by : S → List ℕ → Option Line → List (List ℕ)
   kept_by s line (Some Comment) = line ∷ []

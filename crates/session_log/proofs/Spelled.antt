@@ -35,8 +35,8 @@ use Rattle.std.proofs.lemmas.List.Elements.{All-nil, All-cons}
 use Rattle.std.specs.Simd.{first_chunks}
 use Rattle.authn_core.specs.Views.{Needed, nothing, presence, key, sign}
 use Rattle.authn_core.specs.Views.{IsValidNeed}
-use Rattle.session_log.specs.World.{need_lines, pieces_of, reports_need, signature_need_line, signed_line}
-use Rattle.session_log.specs.World.{is_need_line}
+use Rattle.session_log.specs.Semantics.{need_lines, pieces_of, reports_need, signature_need_line, signed_line}
+use Rattle.session_log.specs.Semantics.{is_need_line}
 use Rattle.session_log.specs.Lines.{is_line_feed}
 use Rattle.session_log.proofs.Through.{feedless, AreLines, both, feedless-append, IsSound}
 

@@ -7,7 +7,7 @@ use Rattle.std.proofs.lemmas.Bool.{le-leb, le-ltb, lt-leb, lt-ltb, ne_eqb}
 use Rattle.session_log.specs.declared.fault.LogFault.{LogFault}
 use Rattle.session_log.specs.declared.fault.LogFault.TheVariants.{TooLong, TooManyLines, Read, Write}
 use Rattle.session_log.specs.Grammar.{parsed}
-use Rattle.session_log.specs.World.{LineSemantics}
+use Rattle.session_log.specs.Semantics.{LineSemantics}
 use Rattle.session_log.specs.Lines.{IsUnfinished, Stops, HasLine}
 use Rattle.session_log.specs.Replay.{SendsPackets, AllSend}
 use Rattle.session_log.specs.Lines.{is_line_feed, pieces, lines, lines_of_pieces}
@@ -23,7 +23,7 @@ use Rattle.std.specs.Str.Parse.{AllDigits}
 use Rattle.std.specs.List.{AllPass, onto_first}
 use Rattle.hex.specs.Hex.{is_hex_digit}
 use Rattle.session_log.proofs.Cutting.{no_some}
-use Rattle.session_log.specs.World.{with_line_feed}
+use Rattle.session_log.specs.Semantics.{with_line_feed}
 use Rattle.session_log.specs.Replay.{Ending, ending_of_fault, read_fails, write_fails, ending_of}
 use Rattle.std.specs.Io.KnownBytes.{Consumes, Appends, Keeps}
 use Rattle.std.proofs.KnownBytes.{Appends-trans, Appends-kept, Consumes-trans}
@@ -34,35 +34,35 @@ use Rattle.session_log.proofs.Cutting.{in_count}
 
 -- The bytes read are whole lines, none of them faulty: this text was written for them, and the session stands at s
 -- before line n.
-pub record Through {S : Type 0} (world : LineSemantics S) (s0 : S) (read text : List ℕ) (s : S) (n : ℕ) : Type 0 where
+pub record Through {S : Type 0} (semantics : LineSemantics S) (s0 : S) (read text : List ℕ) (s : S) (n : ℕ) : Type 0 where
   pub done : List (List ℕ)
   pub cut : (tail : List ℕ) → pieces (read ++ tail) ≡ done ++ pieces tail
   pub count : n ≡ length done + 1
-  pub plays : (more : List (List ℕ)) → played world 1 s0 (done ++ more) ≡ with_text_before text (played world n s more)
-  pub sends : (more : List (List ℕ)) → AllSend world s more → AllSend world s0 (done ++ more)
+  pub plays : (more : List (List ℕ)) → played semantics 1 s0 (done ++ more) ≡ with_text_before text (played semantics n s more)
+  pub sends : (more : List (List ℕ)) → AllSend semantics s more → AllSend semantics s0 (done ++ more)
 
-pub through_none : {S : Type 0} (world : LineSemantics S) (s : S) → Through world s [] [] s 1
-through_none world s = record { done = []; cut = λ tail. refl; count = refl; plays = λ more. refl; sends = λ more h. h }
+pub through_none : {S : Type 0} (semantics : LineSemantics S) (s : S) → Through semantics s [] [] s 1
+through_none semantics s = record { done = []; cut = λ tail. refl; count = refl; plays = λ more. refl; sends = λ more h. h }
 
-module _ {S : Type 0} (world : LineSemantics S) (n : ℕ) (s : S) (line : List ℕ) (more : List (List ℕ)) where
+module _ {S : Type 0} (semantics : LineSemantics S) (n : ℕ) (s : S) (line : List ℕ) (more : List (List ℕ)) where
   -- a line that isn't faulty is played
-  pub played_sound : line_fault world n s line ≡ None → played world n s (line ∷ more)
-      ≡ with_text_before (line_text world s line) (played world (n + 1) (state_after world s line) more)
+  pub played_sound : line_fault semantics n s line ≡ None → played semantics n s (line ∷ more)
+      ≡ with_text_before (line_text semantics s line) (played semantics (n + 1) (state_after semantics s line) more)
   played_sound e = rw e refl
 
   -- a faulty one ends the log
-  pub played_faulty : (f : LogFault) → line_fault world n s line ≡ Some f
-      → played world n s (line ∷ more) ≡ record { text = []; fault = Some f; state = s }
+  pub played_faulty : (f : LogFault) → line_fault semantics n s line ≡ Some f
+      → played semantics n s (line ∷ more) ≡ record { text = []; fault = Some f; state = s }
   played_faulty f e = rw e refl
 
 pub prefixed_twice : {S : Type 0} (a b : List ℕ) (p : Played S) → with_text_before a (with_text_before b p) ≡ with_text_before (a ++ b) p
 prefixed_twice a b p = λ i. record { text = sym (append_assoc a b p.text) i; fault = p.fault; state = p.state }
 
-module _ {S : Type 0} {world : LineSemantics S} {s0 : S} {read text : List ℕ} {s : S} {n : ℕ}
-    (t : Through world s0 read text s n) where
-  pub through_line : (w : List ℕ) (end : ℕ) → position is_line_feed w ≡ Some end → line_fault world n s (take end w) ≡ None
-      → SendsPackets world s (parsed (take end w))
-      → Through world s0 (read ++ take (end + 1) w) (text ++ line_text world s (take end w)) (state_after world s (take end w))
+module _ {S : Type 0} {semantics : LineSemantics S} {s0 : S} {read text : List ℕ} {s : S} {n : ℕ}
+    (t : Through semantics s0 read text s n) where
+  pub through_line : (w : List ℕ) (end : ℕ) → position is_line_feed w ≡ Some end → line_fault semantics n s (take end w) ≡ None
+      → SendsPackets semantics s (parsed (take end w))
+      → Through semantics s0 (read ++ take (end + 1) w) (text ++ line_text semantics s (take end w)) (state_after semantics s (take end w))
       (n + 1)
   through_line w end feed sound packets =
       let line = take end w in
@@ -70,7 +70,7 @@ module _ {S : Type 0} {world : LineSemantics S} {s0 : S} {read text : List ℕ} 
         done = t.done ++ line ∷ [];
         cut = λ tail. simp (append_assoc, t.cut, first_piece w end tail feed);
         count = omega (arith, t.count, length-append t.done (line ∷ []));
-        plays = λ more. rw (append_assoc, t.plays, played_sound world n s line more sound) (prefixed_twice text _ _);
+        plays = λ more. rw (append_assoc, t.plays, played_sound semantics n s line more sound) (prefixed_twice text _ _);
         sends = λ more h. rw append_assoc (t.sends (line ∷ more) (packets, h));
       }
 
@@ -78,41 +78,41 @@ module _ {S : Type 0} {world : LineSemantics S} {s0 : S} {read text : List ℕ} 
   pub lines_are : (w : List ℕ) → lines (read ++ w) ≡ t.done ++ lines w
   lines_are w = let some = pieces_some w in rw (t.cut w, some.2) (lines_beyond t.done some.0 some.1)
 
-  pub playing_is : (w : List ℕ) → play_all world s0 (read ++ w) ≡ with_text_before text (played world n s (lines w))
-  playing_is w = ap (played world 1 s0) (lines_are w) ∙ t.plays (lines w)
+  pub playing_is : (w : List ℕ) → play_all semantics s0 (read ++ w) ≡ with_text_before text (played semantics n s (lines w))
+  playing_is w = ap (played semantics 1 s0) (lines_are w) ∙ t.plays (lines w)
 
 -- the fault of a line is the first, and what is wrong after the last line is where no line is faulty
 pub first_is_line : (last : Option LogFault) (f : LogFault) → first_fault last (Some f) ≡ Some f
 first_is_line last f = search arith
 
-pub first_is_last : {S : Type 0} (world : LineSemantics S) (s0 s : S) (bytes text : List ℕ) (o : Option LogFault)
-    → IsPlayed world s0 s bytes text → world.lacks s ≡ o → fault_of world (play_all world s0 bytes) ≡ o
-first_is_last world s0 s bytes text o h k = search arith
+pub first_is_last : {S : Type 0} (semantics : LineSemantics S) (s0 s : S) (bytes text : List ℕ) (o : Option LogFault)
+    → IsPlayed semantics s0 s bytes text → semantics.lacks s ≡ o → fault_of semantics (play_all semantics s0 bytes) ≡ o
+first_is_last semantics s0 s bytes text o h k = search arith
 
-module _ {S : Type 0} {world : LineSemantics S} {s0 : S} {read text : List ℕ} {s : S} {n : ℕ}
-    (t : Through world s0 read text s n) where
+module _ {S : Type 0} {semantics : LineSemantics S} {s0 : S} {read text : List ℕ} {s : S} {n : ℕ}
+    (t : Through semantics s0 read text s n) where
   -- the first line of the window is faulty
   pub refused : (w line : List ℕ) (more : List (List ℕ)) (f : LogFault) → lines w ≡ line ∷ more
-      → line_fault world n s line ≡ Some f → IsRefused world s0 s (read ++ w) text f
+      → line_fault semantics n s line ≡ Some f → IsRefused semantics s0 s (read ++ w) text f
   refused w line more f e bad = search (arith, playing_is t, played_faulty, first_is_line, append-nil)
 
   -- reading failed in the window's line
-  pub unread : (w : List ℕ) → IsUnfinished n w → IsUnread world s0 s (read ++ w) text n
+  pub unread : (w : List ℕ) → IsUnfinished n w → IsUnread semantics s0 s (read ++ w) text n
   unread w u =
       grind (arith, one_piece w u.no_feed, front_of t.done w, last_is t.done w, append-nil t.done, append-nil text)
 
   -- the text of the window's first line broke off
   pub unwritten : (w line : List ℕ) (more : List (List ℕ)) (front rest : List ℕ) → lines w ≡ line ∷ more
-      → line_fault world n s line ≡ None → line_text world s line ≡ front ++ rest → 0 < length rest
-      → IsUnwritten world s0 (state_after world s line) (read ++ w) (text ++ front)
+      → line_fault semantics n s line ≡ None → line_text semantics s line ≡ front ++ rest → 0 < length rest
+      → IsUnwritten semantics s0 (state_after semantics s line) (read ++ w) (text ++ front)
   unwritten w line more front rest e sound broken missing =
-      let is : played world 1 s0 t.done ≡ with_text_before text (played world n s []) =
-      ap (played world 1 s0) (sym (append-nil t.done)) ∙ t.plays [] in
-      let stood : (played world 1 s0 t.done).state ≡ s = ap (λ (p : Played S). p.state) is in
-      let others = played world (n + 1) (state_after world s line) more in
-      let all : play_all world s0 (read ++ w) ≡ with_text_before text (with_text_before (line_text world s line) others) =
-      playing_is t w ∙ rw (e, played_sound world n s line more sound) refl in
-      let tail = cond (is_none others.fault) (last_text world others.state) [] in
+      let is : played semantics 1 s0 t.done ≡ with_text_before text (played semantics n s []) =
+      ap (played semantics 1 s0) (sym (append-nil t.done)) ∙ t.plays [] in
+      let stood : (played semantics 1 s0 t.done).state ≡ s = ap (λ (p : Played S). p.state) is in
+      let others = played semantics (n + 1) (state_after semantics s line) more in
+      let all : play_all semantics s0 (read ++ w) ≡ with_text_before text (with_text_before (line_text semantics s line) others) =
+      playing_is t w ∙ rw (e, played_sound semantics n s line more sound) refl in
+      let tail = cond (is_none others.fault) (last_text semantics others.state) [] in
       record {
         first = t.done;
         others = line ∷ more;
@@ -124,49 +124,49 @@ module _ {S : Type 0} {world : LineSemantics S} {s0 : S} {read text : List ℕ} 
         broken = rw stood broken;
         missing = missing;
         stands = rw stood refl;
-        beginning = ((rest ++ others.text) ++ tail, ap (output_of world) all ∙ rw broken (simp append_assoc));
+        beginning = ((rest ++ others.text) ++ tail, ap (output_of semantics) all ∙ rw broken (simp append_assoc));
       }
 
-pub log_is : {S : Type 0} (world : LineSemantics S) (q : Played S) (s : S) (text : List ℕ) → q.fault ≡ None → text ≡ q.text
-    → s ≡ q.state → output_of world q ≡ text ++ last_text world s
-log_is {S} world q s text faultless written stands = search arith
+pub log_is : {S : Type 0} (semantics : LineSemantics S) (q : Played S) (s : S) (text : List ℕ) → q.fault ≡ None → text ≡ q.text
+    → s ≡ q.state → output_of semantics q ≡ text ++ last_text semantics s
+log_is {S} semantics q s text faultless written stands = search arith
 
 -- all was played, and the meters line broke off
-pub unwritten_end : {S : Type 0} (world : LineSemantics S) (s0 s : S) (bytes text front rest : List ℕ)
-    → IsPlayed world s0 s bytes text → last_text world s ≡ front ++ rest → 0 < length rest
-    → IsUnwritten world s0 s bytes (text ++ front)
-unwritten_end {S} world s0 s bytes text front rest p broken missing =
+pub unwritten_end : {S : Type 0} (semantics : LineSemantics S) (s0 s : S) (bytes text front rest : List ℕ)
+    → IsPlayed semantics s0 s bytes text → last_text semantics s ≡ front ++ rest → 0 < length rest
+    → IsUnwritten semantics s0 s bytes (text ++ front)
+unwritten_end {S} semantics s0 s bytes text front rest p broken missing =
     grind (arith, append-nil (lines bytes), append_assoc text front rest)
 
-module _ {S : Type 0} {world : LineSemantics S} {s0 : S} {read text : List ℕ} {s : S} {n : ℕ}
-    (t : Through world s0 read text s n) where
+module _ {S : Type 0} {semantics : LineSemantics S} {s0 : S} {read text : List ℕ} {s : S} {n : ℕ}
+    (t : Through semantics s0 read text s n) where
   -- the last line was played
-  pub played_last : (w : List ℕ) → lines w ≡ w ∷ [] → line_fault world n s w ≡ None → SendsPackets world s (parsed w)
-      → IsPlayed world s0 (state_after world s w) (read ++ w) (text ++ line_text world s w)
+  pub played_last : (w : List ℕ) → lines w ≡ w ∷ [] → line_fault semantics n s w ≡ None → SendsPackets semantics s (parsed w)
+      → IsPlayed semantics s0 (state_after semantics s w) (read ++ w) (text ++ line_text semantics s w)
   played_last w e sound packets =
-      grind (arith, playing_is t w, played_sound world n s w, lines_are t w, append-nil (line_text world s w))
+      grind (arith, playing_is t w, played_sound semantics n s w, lines_are t w, append-nil (line_text semantics s w))
 
   -- nothing was left to play
-  pub played_none : IsPlayed world s0 s (read ++ []) text
+  pub played_none : IsPlayed semantics s0 s (read ++ []) text
   played_none = grind (arith, playing_is t, lines_are t, append-nil text)
 
 -- which fault a line has
 abbrev chosen : ℕ → Bool → Bool → Option LogFault → Option LogFault
 chosen n many long other = cond many (Some TooManyLines) (cond long (Some (TooLong n)) other)
 
-module _ {S : Type 0} (world : LineSemantics S) (n : ℕ) (s : S) (line : List ℕ) where
+module _ {S : Type 0} (semantics : LineSemantics S) (n : ℕ) (s : S) (line : List ℕ) where
   tests : (many long : Bool) → nat_le (2 ^ 32) n ≡ many → nat_lt 255 (length line) ≡ long
-      → line_fault world n s line ≡ chosen n many long (parsed_line_fault world n s (parsed line))
-  tests many long p q = λ i. chosen n (p i) (q i) (parsed_line_fault world n s (parsed line))
+      → line_fault semantics n s line ≡ chosen n many long (parsed_line_fault semantics n s (parsed line))
+  tests many long p q = λ i. chosen n (p i) (q i) (parsed_line_fault semantics n s (parsed line))
 
   -- a line that is in the count and short has the fault of what it says
-  pub said_fault : n < 2 ^ 32 → length line < 256 → line_fault world n s line ≡ parsed_line_fault world n s (parsed line)
+  pub said_fault : n < 2 ^ 32 → length line < 256 → line_fault semantics n s line ≡ parsed_line_fault semantics n s (parsed line)
   said_fault few short = tests false false (lt-leb (2 ^ 32) n few) (le-ltb 255 (length line) (omega arith))
 
-  pub too_long : n < 2 ^ 32 → 256 ≤ length line → line_fault world n s line ≡ Some (TooLong n)
+  pub too_long : n < 2 ^ 32 → 256 ≤ length line → line_fault semantics n s line ≡ Some (TooLong n)
   too_long few long = tests false true (lt-leb (2 ^ 32) n few) (lt-ltb 255 (length line) (omega arith))
 
-  pub too_many : 2 ^ 32 ≤ n → line_fault world n s line ≡ Some TooManyLines
+  pub too_many : 2 ^ 32 ≤ n → line_fault semantics n s line ≡ Some TooManyLines
   too_many many = tests true (nat_lt 255 (length line)) (le-leb (2 ^ 32) n many) refl
 
 -- ---- lines with no line feed in them: what they are joined to is cut into them again
@@ -257,13 +257,13 @@ pub record IsSound (line : List ℕ) : Type 0 where
   pub short : length line < 256
   pub says : parsed line ≢ None
 
-pub sound_line : {S : Type 0} (world : LineSemantics S) (n : ℕ) (s : S) (line : List ℕ) → line_fault world n s line ≡ None
+pub sound_line : {S : Type 0} (semantics : LineSemantics S) (n : ℕ) (s : S) (line : List ℕ) → line_fault semantics n s line ≡ None
     → IsSound line
-sound_line world n s line h = search arith
+sound_line semantics n s line h = search arith
 
-pub sound_first : {S : Type 0} (world : LineSemantics S) (n : ℕ) (s : S) (line : List ℕ) (more : List (List ℕ))
-    → (played world n s (line ∷ more)).fault ≡ None → line_fault world n s line ≡ None
-sound_first {S} world n s line more h = search (arith, no_some, played_faulty)
+pub sound_first : {S : Type 0} (semantics : LineSemantics S) (n : ℕ) (s : S) (line : List ℕ) (more : List (List ℕ))
+    → (played semantics n s (line ∷ more)).fault ≡ None → line_fault semantics n s line ≡ None
+sound_first {S} semantics n s line more h = search (arith, no_some, played_faulty)
 
 -- ---- of each way in which the playing of lines ends: what holds at Ok alone, and the failures that it counts
 
@@ -289,16 +289,16 @@ pub stops_unwritten : (n : ℕ) (w : List ℕ) (e : LogFault) → Stops n w e �
 stops_unwritten n w e h = search arith
 
 -- where a line is played, no read fails, and a write fails exactly where its text breaks off
-pub plays_unread : {S F : Type 0} (world : LineSemantics S) (taken : F → Option (List ℕ)) (failed : F
+pub plays_unread : {S F : Type 0} (semantics : LineSemantics S) (taken : F → Option (List ℕ)) (failed : F
     → ℕ) (n : ℕ) (s t : S) (line : List ℕ) (target : F × F) (q : Ending)
-    → PlaysLine world taken failed n s t line target q → read_fails q ≡ false
-plays_unread world taken failed n s t line target q h = search arith
+    → PlaysLine semantics taken failed n s t line target q → read_fails q ≡ false
+plays_unread semantics taken failed n s t line target q h = search arith
 
-pub plays_counts : {S F : Type 0} (world : LineSemantics S) (taken : F → Option (List ℕ)) (failed : F
+pub plays_counts : {S F : Type 0} (semantics : LineSemantics S) (taken : F → Option (List ℕ)) (failed : F
     → ℕ) (n : ℕ) (s t : S) (line : List ℕ) (target : F × F) (q : Ending)
-    → PlaysLine world taken failed n s t line target q → failed target.1
+    → PlaysLine semantics taken failed n s t line target q → failed target.1
     ≡ cond (write_fails q) (failed target.0 + 1) (failed target.0)
-plays_counts world taken failed n s t line target q h = search arith
+plays_counts semantics taken failed n s t line target q h = search arith
 
 -- ---- each way in which the playing of lines ends
 
@@ -312,17 +312,17 @@ pub short_in_front : (w : List ℕ) (n end : ℕ) → HasLine n w end → length
 short_in_front w n end has = short_front w (take end w) end refl has.within has.short
 
 -- What was read is played up to the window w, and this text for it is written.
-module _ {S : Type 0} {world : LineSemantics S} {s0 s : S} {read text : List ℕ} {n : ℕ}
-    (through : Through world s0 read text s n)
+module _ {S : Type 0} {semantics : LineSemantics S} {s0 s : S} {read text : List ℕ} {n : ℕ}
+    (through : Through semantics s0 read text s n)
     (left left' start : Option (List ℕ)) (w : List ℕ) (p : Consumes left left' (read ++ w)) where
   -- no line could be read
   pub stops_reading : (taken : Option (List ℕ)) (e : LogFault) → Appends start taken text → Stops n w e
-      → ReadsAndWrites left left' start taken (λ bytes text. Plays world s0 s bytes text (ending_of_fault e))
+      → ReadsAndWrites left left' start taken (λ bytes text. Plays semantics s0 s bytes text (ending_of_fault e))
   stops_reading taken TooManyLines q h =
       let some = some_line w h.1 in
-      (read ++ w, text, p, q, refused through w some.0 some.1 TooManyLines some.2 (too_many world n s some.0 h.0))
+      (read ++ w, text, p, q, refused through w some.0 some.1 TooManyLines some.2 (too_many semantics n s some.0 h.0))
   stops_reading taken (TooLong m) q h =
-      let bad = too_long world n s w h.1 (omega (arith, h.3)) in
+      let bad = too_long semantics n s w h.1 (omega (arith, h.3)) in
       let found = refused through w w [] (TooLong n) (last_line w h.2 (omega (arith, h.3))) bad in
       (read ++ w, text, p, q, rw h.0 found)
   stops_reading taken (Read m) q h = let found = unread through w h.1 in (read ++ w, text, p, q, rw h.0 found)
@@ -333,20 +333,20 @@ module _ {S : Type 0} {world : LineSemantics S} {s0 s : S} {read text : List ℕ
     module _ (line : List ℕ) (more : List (List ℕ)) (first : lines w ≡ line ∷ more) (short : length line < 256)
         (few : n < 2 ^ 32) where
       -- the line was faulty, and nothing was written for it
-      stops_faulty : (fault : LogFault) → parsed_line_fault world n s (parsed line) ≡ Some fault → t ≡ s
+      stops_faulty : (fault : LogFault) → parsed_line_fault semantics n s (parsed line) ≡ Some fault → t ≡ s
           → Keeps (taken target.0) (taken target.1)
-          → ReadsAndWrites left left' start (taken target.1) (λ bytes text. IsRefused world s0 t bytes text fault)
+          → ReadsAndWrites left left' start (taken target.1) (λ bytes text. IsRefused semantics s0 t bytes text fault)
       stops_faulty fault bad stays kept =
-          let found = refused through w line more fault first (said_fault world n s line few short ∙ bad) in
+          let found = refused through w line more fault first (said_fault semantics n s line few short ∙ bad) in
           (read ++ w, text, p, Appends-kept start (taken target.0) (taken target.1) text q kept, rw stays found)
 
       -- the line was faulty, or its text broke off
-      pub stops_at_line : (e : LogFault) → PlaysLine world taken failed n s t line target (ending_of_fault e)
-          → ReadsAndWrites left left' start (taken target.1) (λ bytes text. Plays world s0 t bytes text (ending_of_fault e))
+      pub stops_at_line : (e : LogFault) → PlaysLine semantics taken failed n s t line target (ending_of_fault e)
+          → ReadsAndWrites left left' start (taken target.1) (λ bytes text. Plays semantics s0 t bytes text (ending_of_fault e))
       stops_at_line (Read m) h = absurd h
       stops_at_line Write h =
           let broken = h.2.0 in
-          let sound = said_fault world n s line few short ∙ h.0 in
+          let sound = said_fault semantics n s line few short ∙ h.0 in
           let found = unwritten through w line more broken.0 broken.1 first sound broken.2 broken.3 in
           let all = Appends-trans start (taken target.0) _ text broken.0 q broken.4 in
           (read ++ w, text ++ broken.0, p, all, rw h.1 found)
@@ -354,57 +354,57 @@ module _ {S : Type 0} {world : LineSemantics S} {s0 s : S} {read text : List ℕ
 
     module _ (end : ℕ) (has : HasLine n w end) where
       -- the line in front was played
-      pub goes_on : (rest : List ℕ) → rest ≡ drop (end + 1) w → parsed_line_fault world n s (parsed (take end w)) ≡ None
-          → t ≡ state_after world s (take end w) → SendsPackets world s (parsed (take end w))
-          → WritesAll taken failed target (line_text world s (take end w))
+      pub goes_on : (rest : List ℕ) → rest ≡ drop (end + 1) w → parsed_line_fault semantics n s (parsed (take end w)) ≡ None
+          → t ≡ state_after semantics s (take end w) → SendsPackets semantics s (parsed (take end w))
+          → WritesAll taken failed target (line_text semantics s (take end w))
           → (read' : List ℕ) × (text' : List ℕ) × Consumes left left' (read' ++ rest)
-          × Appends start (taken target.1) text' × Through world s0 read' text' t (n + 1)
+          × Appends start (taken target.1) text' × Through semantics s0 read' text' t (n + 1)
       goes_on rest is_rest sound stood packets wrote =
           let line = take end w in
           let whole : read ++ w ≡ (read ++ take (end + 1) w) ++ rest = simp (is_rest, append_assoc, take-append-drop) in
-          let faultless = said_fault world n s line has.counted (short_in_front w n end has) ∙ sound in
+          let faultless = said_fault semantics n s line has.counted (short_in_front w n end has) ∙ sound in
           let found = through_line through w end has.feed faultless packets in
-          let text' = Appends-trans start (taken target.0) (taken target.1) text (line_text world s line) q wrote.0 in
-          (read ++ take (end + 1) w, text ++ line_text world s line, rw whole at p, text', rw stood found)
+          let text' = Appends-trans start (taken target.0) (taken target.1) text (line_text semantics s line) q wrote.0 in
+          (read ++ take (end + 1) w, text ++ line_text semantics s line, rw whole at p, text', rw stood found)
 
       -- the line in front was faulty, or its text broke off
-      pub stops_in_front : (e : LogFault) → PlaysLine world taken failed n s t (take end w) target (ending_of_fault e)
-          → ReadsAndWrites left left' start (taken target.1) (λ bytes text. Plays world s0 t bytes text (ending_of_fault e))
+      pub stops_in_front : (e : LogFault) → PlaysLine semantics taken failed n s t (take end w) target (ending_of_fault e)
+          → ReadsAndWrites left left' start (taken target.1) (λ bytes text. Plays semantics s0 t bytes text (ending_of_fault e))
       stops_in_front =
           stops_at_line (take end w) (lines (drop (end + 1) w)) (line_in_front w end has.feed)
           (short_in_front w n end has) has.counted
 
     -- the last piece was played, or wasn't
     pub ends : {A : Type 0} (r : Result A LogFault) → IsUnfinished n w → 0 < length w
-        → PlaysLine world taken failed n s t w target (ending_of r)
-        → ReadsAndWrites left left' start (taken target.1) (λ bytes text. Plays world s0 t bytes text (ending_of r))
+        → PlaysLine semantics taken failed n s t w target (ending_of r)
+        → ReadsAndWrites left left' start (taken target.1) (λ bytes text. Plays semantics s0 t bytes text (ending_of r))
     ends (Ok x) u more h =
-        let sound = said_fault world n s w (in_count n w u.counted more) u.short ∙ h.0 in
+        let sound = said_fault semantics n s w (in_count n w u.counted more) u.short ∙ h.0 in
         let found = played_last through w (last_line w u.no_feed more) sound h.2 in
-        let all = Appends-trans start (taken target.0) (taken target.1) text (line_text world s w) q h.3.0 in
-        (read ++ w, text ++ line_text world s w, p, all, rw h.1 found)
+        let all = Appends-trans start (taken target.0) (taken target.1) text (line_text semantics s w) q h.3.0 in
+        (read ++ w, text ++ line_text semantics s w, p, all, rw h.1 found)
     ends (Err e) u more h = stops_at_line w [] (last_line w u.no_feed more) u.short (in_count n w u.counted more) e h
 
 pub some_left : (n : ℕ) → (n ≡ 0 → ⊥) → 0 < n
 some_left n h = search arith
 
 -- All lines are played, and nothing is wrong after the last one.
-module _ {S F : Type 0} {world : LineSemantics S} {s0 s : S} {bytes text : List ℕ} (taken : F → Option (List ℕ))
+module _ {S F : Type 0} {semantics : LineSemantics S} {s0 s : S} {bytes text : List ℕ} (taken : F → Option (List ℕ))
     (failed : F → ℕ) (left left' start : Option (List ℕ)) (target : F × F) (p : Consumes left left' bytes)
-    (q : Appends start (taken target.0) text) (whole : IsPlayed world s0 s bytes text) (none : world.lacks s ≡ None)
+    (q : Appends start (taken target.0) text) (whole : IsPlayed semantics s0 s bytes text) (none : semantics.lacks s ≡ None)
   where
-    last : last_text world s ≡ world.ending s
-    last = ap (λ (o : Option LogFault). cond (is_none o) (world.ending s) []) none
+    last : last_text semantics s ≡ semantics.ending s
+    last = ap (λ (o : Option LogFault). cond (is_none o) (semantics.ending s) []) none
 
     -- the text after the last line was written
-    pub closes : WritesAll taken failed target (world.ending s)
-        → ReadsAndWrites left left' start (taken target.1) (λ b t. IsDone world s0 s b t × AllSend world s0 (lines b))
+    pub closes : WritesAll taken failed target (semantics.ending s)
+        → ReadsAndWrites left left' start (taken target.1) (λ b t. IsDone semantics s0 s b t × AllSend semantics s0 (lines b))
     closes wrote = search (arith, Appends-trans, first_is_last, last)
 
     -- it broke off
-    pub closes_not : WriteFails taken failed target (world.ending s)
-        → ReadsAndWrites left left' start (taken target.1) (λ b t. IsUnwritten world s0 s b t)
+    pub closes_not : WriteFails taken failed target (semantics.ending s)
+        → ReadsAndWrites left left' start (taken target.1) (λ b t. IsUnwritten semantics s0 s b t)
     closes_not broken =
         let off = broken.0 in
-        let found = unwritten_end world s0 s bytes text off.0 off.1 whole (last ∙ off.2) off.3 in
+        let found = unwritten_end semantics s0 s bytes text off.0 off.1 whole (last ∙ off.2) off.3 in
         (bytes, text ++ off.0, p, Appends-trans start (taken target.0) (taken target.1) text off.0 q off.4, found)

@@ -4,7 +4,7 @@ use Rattle.token_session.specs.declared.input.Timed.{Timed}
 use Rattle.session_log.specs.declared.line.Line.{Line}
 use Rattle.session_log.specs.Grammar.{parsed}
 use Rattle.session_log.specs.declared.line.Line.TheVariants.{Input, Sent, Comment, Count}
-use Rattle.session_log.specs.World.{InputSemantics, same_line, LineSemantics}
+use Rattle.session_log.specs.Semantics.{InputSemantics, same_line, LineSemantics}
 use Rattle.std.specs.Cmp.Lexicographic.{pointwise}
 use Rattle.authn_core.specs.Turn.{Start}
 use Rattle.hid_packet.specs.declared.packet.Packet.{Packet}
@@ -175,8 +175,8 @@ comparison_after course c Comment = record c { lines = c.lines + 1 }
 comparison_after course c Count = record c { lines = c.lines + 1 }
 
 -- The semantics of `check`. Nothing is written before the end of the log.
-abbrev pub check_world : {S : Type 0} → InputSemantics S → LineSemantics (Compared S)
-check_world course = record {
+abbrev pub check_semantics : {S : Type 0} → InputSemantics S → LineSemantics (Compared S)
+check_semantics course = record {
   stops = comparison_fault;
   moves = comparison_after course;
   sound = λ c l. Unit {0};
@@ -186,13 +186,13 @@ check_world course = record {
   counts = λ c. course.counts c.session;
 }
 
--- Comparing a log with the packets sent from a session's state.
+-- The semantics of `check`; the state is a session's state.
 abbrev pub check_machine : LineSemantics (Compared SessionState)
-check_machine = check_world session_semantics
+check_machine = check_semantics session_semantics
 
--- Comparing a log with the packets that a history defines.
+-- The semantics of `check`; the state is the history.
 abbrev pub check_history : Start → LineSemantics (Compared (List Timed))
-check_history start = check_world (history_semantics start)
+check_history start = check_semantics (history_semantics start)
 
 -- The expected packets that remain: the next one, if any, and those after it.
 abbrev pub due_packets : Option Packet → List (List ℕ) → List (List ℕ)

@@ -6,7 +6,7 @@ use Rattle.token_session.specs.declared.input.{Meters.Meters, Timed.Timed}
 use Rattle.token_session.specs.Meters.{SessionState, IsStateAfter}
 use Rattle.session_log.specs.declared.{command.ReplayMode.ReplayMode, fault.LogFault.LogFault}
 use Rattle.session_log.specs.declared.command.ReplayMode.TheVariants.{Check, Live, Quiet, Replay}
-use Rattle.session_log.specs.{Check.first_comparison, Check.check_history, World.LineSemantics, Replay.PlaysWholeLog, Replay.ReadsTo}
+use Rattle.session_log.specs.{Check.first_comparison, Check.check_history, Semantics.LineSemantics, Replay.PlaysWholeLog, Replay.ReadsTo}
 use Rattle.session_log.specs.Replay.{ending_of, read_fails, write_fails}
 use Rattle.session_log.specs.Replay.{history, live_history, quiet_history}
 use Rattle.session_log.specs.Lines.{Counts, IsAtEndOfInput, ReadsAndWrites}
@@ -49,22 +49,22 @@ IsCounted left unread ended unwritten answer input output =
 abbrev pub PlaysThrough : {S A I O : Type 0} → LineSemantics S → S → (List ℕ → List ℕ → Type 0)
     → (left : I → Option (List ℕ)) → (unread : I → ℕ) → (ended : I → Bool) → (taken : O → Option (List ℕ))
     → (unwritten : O → ℕ) → Result A LogFault → (I × I) → (O × O) → Type 0
-PlaysThrough world s Says left unread ended taken unwritten answer input output =
+PlaysThrough semantics s Says left unread ended taken unwritten answer input output =
     ReadsAndWrites (left input.0) (left input.1) (taken output.0) (taken output.1) Says
-    × ReadsTo world s (left input.0) (left input.1) (IsAtEndOfInput left ended input.1) (ending_of answer)
+    × ReadsTo semantics s (left input.0) (left input.1) (IsAtEndOfInput left ended input.1) (ending_of answer)
     × IsCounted left unread ended unwritten answer input output
 
 -- Playing a log from state `x`, with a start and the history in `x`, leads to the session state `s`. The text is the
--- one that `world` defines for the log.
+-- one that `semantics` defines for the log.
 abbrev pub PlaysIn : {S A I O : Type 0} → LineSemantics S → (S → List Timed) → S → Start
     → (left : I → Option (List ℕ)) → (unread : I → ℕ) → (ended : I → Bool) → (taken : O → Option (List ℕ))
     → (unwritten : O → ℕ)
     → Result A LogFault → SessionState → (I × I) → (O × O) → Type 0
-PlaysIn {S} world history_in x start left unread ended taken unwritten answer s input output =
+PlaysIn {S} semantics history_in x start left unread ended taken unwritten answer s input output =
     (later : S) × IsStateAfter s start (history_in later)
     × ReadsAndWrites (left input.0) (left input.1) (taken output.0) (taken output.1)
-    (λ bytes text. PlaysWholeLog world x later bytes text (ending_of answer))
-    × ReadsTo world x (left input.0) (left input.1) (IsAtEndOfInput left ended input.1) (ending_of answer)
+    (λ bytes text. PlaysWholeLog semantics x later bytes text (ending_of answer))
+    × ReadsTo semantics x (left input.0) (left input.1) (IsAtEndOfInput left ended input.1) (ending_of answer)
     × IsCounted left unread ended unwritten answer input output
 
 -- Playing a log with a command (replay, live, check or quiet) on a session with this start and this history leads to

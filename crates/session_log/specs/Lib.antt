@@ -1,5 +1,5 @@
 pub mod Grammar
-pub mod World
+pub mod Semantics
 pub mod Check
 pub mod Replay
 pub mod Lines

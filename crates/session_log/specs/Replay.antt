@@ -8,7 +8,7 @@ use Rattle.session_log.specs.declared.fault.LogFault.TheVariants.{BadLine, TooLo
 use Rattle.session_log.specs.declared.fault.LogFault.TheVariants.{Read, Write}
 use Rattle.session_log.specs.Lines.{lines, whole_lines, last_piece, WritesAll, WriteFails}
 use Rattle.session_log.specs.Grammar.{parsed}
-use Rattle.session_log.specs.World.{LineSemantics, InputSemantics, replay_world, quiet_world, live_world}
+use Rattle.session_log.specs.Semantics.{LineSemantics, InputSemantics, replay_semantics, quiet_semantics, live_semantics}
 use Rattle.std.specs.Io.KnownBytes.{Appends, Consumes, Keeps}
 use Rattle.authn_core.specs.Turn.{Start}
 use Rattle.authn_core.specs.Views.{Needed, needs}
@@ -23,33 +23,33 @@ use Rattle.token_session.specs.declared.input.Meters.{Meters}
 
 -- The text for a parsed line.
 abbrev pub parsed_line_text : {S : Type 0} → LineSemantics S → S → List ℕ → Option Line → List ℕ
-parsed_line_text world s line None = []
-parsed_line_text world s line (Some l) = world.writes s line l
+parsed_line_text semantics s line None = []
+parsed_line_text semantics s line (Some l) = semantics.writes s line l
 
 -- The text for a line.
 abbrev pub line_text : {S : Type 0} → LineSemantics S → S → List ℕ → List ℕ
-line_text world s line = parsed_line_text world s line (parsed line)
+line_text semantics s line = parsed_line_text semantics s line (parsed line)
 
 -- The state after a parsed line.
 abbrev pub state_after_parsed : {S : Type 0} → LineSemantics S → S → Option Line → S
-state_after_parsed world s None = s
-state_after_parsed world s (Some l) = world.moves s l
+state_after_parsed semantics s None = s
+state_after_parsed semantics s (Some l) = semantics.moves s l
 
 -- The state after a line.
 abbrev pub state_after : {S : Type 0} → LineSemantics S → S → List ℕ → S
-state_after world s line = state_after_parsed world s (parsed line)
+state_after semantics s line = state_after_parsed semantics s (parsed line)
 
--- The error of line `n`, if any, from its parsed form: it is not a log line, or `world` rejects it.
+-- The error of line `n`, if any, from its parsed form: it is not a log line, or `semantics` rejects it.
 abbrev pub parsed_line_fault : {S : Type 0} → LineSemantics S → ℕ → S → Option Line → Option LogFault
-parsed_line_fault world n s None = Some (BadLine n)
-parsed_line_fault world n s (Some l) = world.stops s l
+parsed_line_fault semantics n s None = Some (BadLine n)
+parsed_line_fault semantics n s (Some l) = semantics.stops s l
 
 -- The error of line `n`, if any. A log has at most 2^32-1 lines, and a line has at most 255 bytes.
 abbrev pub line_fault : {S : Type 0} → LineSemantics S → ℕ → S → List ℕ → Option LogFault
-line_fault world n s line =
+line_fault semantics n s line =
     if nat_le (2 ^ 32) n then Some TooManyLines
     else if nat_lt 255 (length line) then Some (TooLong n)
-    else parsed_line_fault world n s (parsed line)
+    else parsed_line_fault semantics n s (parsed line)
 
 -- The result of playing lines: the text for the lines before the first invalid line, the error of that line, if any,
 -- and the state after the valid lines.
@@ -64,22 +64,22 @@ with_text_before text p = record { text = text ++ p.text; fault = p.fault; state
 
 -- The result of playing lines. `n` is the number of the first line.
 abbrev pub played : {S : Type 0} → LineSemantics S → ℕ → S → List (List ℕ) → Played S
-played world n s [] = record { text = []; fault = None; state = s }
-played world n s (line ∷ more) =
-    if is_some (line_fault world n s line) then record { text = []; fault = line_fault world n s line; state = s }
-    else with_text_before (line_text world s line) (played world (n + 1) (state_after world s line) more)
+played semantics n s [] = record { text = []; fault = None; state = s }
+played semantics n s (line ∷ more) =
+    if is_some (line_fault semantics n s line) then record { text = []; fault = line_fault semantics n s line; state = s }
+    else with_text_before (line_text semantics s line) (played semantics (n + 1) (state_after semantics s line) more)
 
 -- The result of playing all lines of the bytes.
 abbrev pub play_all : {S : Type 0} → LineSemantics S → S → List ℕ → Played S
-play_all world s bytes = played world 1 s (lines bytes)
+play_all semantics s bytes = played semantics 1 s (lines bytes)
 
 -- The text after the last line.
 abbrev pub last_text : {S : Type 0} → LineSemantics S → S → List ℕ
-last_text world s = if is_none (world.lacks s) then world.ending s else []
+last_text semantics s = if is_none (semantics.lacks s) then semantics.ending s else []
 
 -- The whole output: the texts of the lines and, if no line is invalid, the text after the last line.
 abbrev pub output_of : {S : Type 0} → LineSemantics S → Played S → List ℕ
-output_of world p = p.text ++ (if is_none p.fault then last_text world p.state else [])
+output_of semantics p = p.text ++ (if is_none p.fault then last_text semantics p.state else [])
 
 -- The first of two errors, if any: that of a line, or else that at the end of the log.
 abbrev pub first_fault : (last line : Option LogFault) → Option LogFault
@@ -89,13 +89,13 @@ first_fault (Some fault) (Some first) = Some first
 
 -- The first error of playing a log, if any.
 abbrev pub fault_of : {S : Type 0} → LineSemantics S → Played S → Option LogFault
-fault_of world p = first_fault (world.lacks p.state) p.fault
+fault_of semantics p = first_fault (semantics.lacks p.state) p.fault
 
 -- The output for a whole log.
 abbrev pub log : {S : Type 0} → LineSemantics S → S → List ℕ → List ℕ
-log world s bytes = output_of world (play_all world s bytes)
+log semantics s bytes = output_of semantics (play_all semantics s bytes)
 
--- ---- the semantics of log lines on a session's state, and on a history
+-- ---- the semantics of log lines; the state is a session's state, or the history of all inputs
 
 -- The effect of inputs on a session's state.
 abbrev pub session_semantics : InputSemantics SessionState
@@ -110,13 +110,13 @@ history_semantics start = record {
   counts = λ h. meters_of start (received start h);
 }
 
--- Replaying a log on a session's state.
+-- The semantics of `replay`; the state is a session's state.
 abbrev pub machine : LineSemantics SessionState
-machine = replay_world session_semantics
+machine = replay_semantics session_semantics
 
--- Replaying a log on a history.
+-- The semantics of `replay`; the state is the history.
 abbrev pub history : Start → LineSemantics (List Timed)
-history start = replay_world (history_semantics start)
+history start = replay_semantics (history_semantics start)
 
 -- Like `history_semantics`, with packets whose definition uses only the start and the inputs, not an authenticator's
 -- state.
@@ -127,17 +127,17 @@ exchange_semantics start = record {
   counts = λ h. meters_of start (received start h);
 }
 
--- Replaying a log on a history, with packets whose definition uses only the start and the inputs.
+-- Like `history`, with packets whose definition uses only the start and the inputs.
 abbrev pub replay_exchanges : Start → LineSemantics (List Timed)
-replay_exchanges start = replay_world (exchange_semantics start)
+replay_exchanges start = replay_semantics (exchange_semantics start)
 
--- Replacing noise by ticks in a log, from a session's state.
+-- The semantics of `quiet`; the state is a session's state.
 abbrev pub quiet_machine : LineSemantics SessionState
-quiet_machine = quiet_world session_semantics (λ s x. is_noise_at s.machine x)
+quiet_machine = quiet_semantics session_semantics (λ s x. is_noise_at s.machine x)
 
--- Replacing noise by ticks in a log, from a history.
+-- The semantics of `quiet`; the state is the history.
 abbrev pub quiet_history : Start → LineSemantics (List Timed)
-quiet_history start = quiet_world (history_semantics start) (λ h x. is_noise_after start (receive start x (received start h))
+quiet_history start = quiet_semantics (history_semantics start) (λ h x. is_noise_after start (receive start x (received start h))
     (received start h))
 
 -- What the pending request of a session needs.
@@ -148,19 +148,19 @@ session_needs s = needs s.machine.core.state.work
 abbrev pub history_needs : Start → List Timed → Needed
 history_needs start h = needs (core start (received start h)).state.work
 
--- Replaying a log as `live` does, with what the pending request needs, on a session's state.
+-- The semantics of `live`; the state is a session's state.
 abbrev pub live_machine : LineSemantics SessionState
-live_machine = live_world session_semantics session_needs
+live_machine = live_semantics session_semantics session_needs
 
--- Replaying a log as `live` does, with what the pending request needs, on a history.
+-- The semantics of `live`; the state is the history.
 abbrev pub live_history : Start → LineSemantics (List Timed)
-live_history start = live_world (history_semantics start) (history_needs start)
+live_history start = live_semantics (history_semantics start) (history_needs start)
 
 -- The text that was written to the target is a log with the same output from state `s`, unless it has 2^32 or more
 -- lines.
 abbrev pub RepeatsIn : LineSemantics SessionState → Option (List ℕ) → Option (List ℕ) → SessionState → Type 0
-RepeatsIn world taken taken' s = (text : List ℕ) × Appends taken taken' text
-    × (length (lines text) < 2 ^ 32 → log world s text ≡ text)
+RepeatsIn semantics taken taken' s = (text : List ℕ) × Appends taken taken' text
+    × (length (lines text) < 2 ^ 32 → log semantics s text ≡ text)
 
 -- Like `RepeatsIn`, for a replay on a session's state.
 abbrev pub Repeats : Option (List ℕ) → Option (List ℕ) → SessionState → Type 0
@@ -170,13 +170,13 @@ Repeats = RepeatsIn machine
 
 -- For a parsed line, the condition on the packets that are sent is true.
 abbrev pub SendsPackets : {S : Type 0} → LineSemantics S → S → Option Line → Type 0
-SendsPackets world s None = Unit {0}
-SendsPackets world s (Some l) = world.sound s l
+SendsPackets semantics s None = Unit {0}
+SendsPackets semantics s (Some l) = semantics.sound s l
 
 -- For each of these lines, the condition on the packets that are sent is true.
 abbrev pub AllSend : {S : Type 0} → LineSemantics S → S → List (List ℕ) → Type 0
-AllSend world s [] = Unit {0}
-AllSend world s (line ∷ more) = SendsPackets world s (parsed line) × AllSend world (state_after world s line) more
+AllSend semantics s [] = Unit {0}
+AllSend semantics s (line ∷ more) = SendsPackets semantics s (parsed line) × AllSend semantics (state_after semantics s line) more
 
 -- Each of the meters is below 2^64.
 pub record FitsMeters (m : Meters) : Type 0 where
@@ -224,116 +224,116 @@ write_fails _ = false
 -- ---- what each result of a call that plays a log means
 
 -- No error occurred, and the output for the whole log was written.
-pub record IsDone {S : Type 0} (world : LineSemantics S) (s t : S) (bytes text : List ℕ) : Type 0 where
-  pub faultless : fault_of world (play_all world s bytes) ≡ None
-  pub written : text ≡ log world s bytes
-  pub stands : t ≡ (play_all world s bytes).state
+pub record IsDone {S : Type 0} (semantics : LineSemantics S) (s t : S) (bytes text : List ℕ) : Type 0 where
+  pub faultless : fault_of semantics (play_all semantics s bytes) ≡ None
+  pub written : text ≡ log semantics s bytes
+  pub stands : t ≡ (play_all semantics s bytes).state
 
 -- No line is invalid, the texts for all lines were written, and for each line the condition on the packets that are
 -- sent is true.
-pub record IsPlayed {S : Type 0} (world : LineSemantics S) (s t : S) (bytes text : List ℕ) : Type 0 where
-  pub sends : AllSend world s (lines bytes)
-  pub faultless : (play_all world s bytes).fault ≡ None
-  pub written : text ≡ (play_all world s bytes).text
-  pub stands : t ≡ (play_all world s bytes).state
+pub record IsPlayed {S : Type 0} (semantics : LineSemantics S) (s t : S) (bytes text : List ℕ) : Type 0 where
+  pub sends : AllSend semantics s (lines bytes)
+  pub faultless : (play_all semantics s bytes).fault ≡ None
+  pub written : text ≡ (play_all semantics s bytes).text
+  pub stands : t ≡ (play_all semantics s bytes).state
 
 -- No line is invalid, and the texts for all lines were written. The packets that are sent may be any.
-pub record AreWritten {S : Type 0} (world : LineSemantics S) (s t : S) (bytes text : List ℕ) : Type 0 where
-  pub faultless : (play_all world s bytes).fault ≡ None
-  pub written : text ≡ (play_all world s bytes).text
-  pub stands : t ≡ (play_all world s bytes).state
+pub record AreWritten {S : Type 0} (semantics : LineSemantics S) (s t : S) (bytes text : List ℕ) : Type 0 where
+  pub faultless : (play_all semantics s bytes).fault ≡ None
+  pub written : text ≡ (play_all semantics s bytes).text
+  pub stands : t ≡ (play_all semantics s bytes).state
 
 -- This is the first error in the log, and the texts for the lines before it were written.
-pub record IsRefused {S : Type 0} (world : LineSemantics S) (s t : S) (bytes text : List ℕ) (f : LogFault) : Type 0 where
-  pub faulty : fault_of world (play_all world s bytes) ≡ Some f
-  pub written : text ≡ (play_all world s bytes).text
-  pub stands : t ≡ (play_all world s bytes).state
+pub record IsRefused {S : Type 0} (semantics : LineSemantics S) (s t : S) (bytes text : List ℕ) (f : LogFault) : Type 0 where
+  pub faulty : fault_of semantics (play_all semantics s bytes) ≡ Some f
+  pub written : text ≡ (play_all semantics s bytes).text
+  pub stands : t ≡ (play_all semantics s bytes).state
 
 -- Reading failed in line `n`. All lines before it are valid, and their texts were written.
-pub record IsUnread {S : Type 0} (world : LineSemantics S) (s t : S) (bytes text : List ℕ) (n : ℕ) : Type 0 where
-  pub faultless : (played world 1 s (whole_lines bytes)).fault ≡ None
-  pub written : text ≡ (played world 1 s (whole_lines bytes)).text
-  pub stands : t ≡ (played world 1 s (whole_lines bytes)).state
+pub record IsUnread {S : Type 0} (semantics : LineSemantics S) (s t : S) (bytes text : List ℕ) (n : ℕ) : Type 0 where
+  pub faultless : (played semantics 1 s (whole_lines bytes)).fault ≡ None
+  pub written : text ≡ (played semantics 1 s (whole_lines bytes)).text
+  pub stands : t ≡ (played semantics 1 s (whole_lines bytes)).state
   pub named : n ≡ length (whole_lines bytes) + 1
   pub short : length (last_piece bytes) < 256
   pub counted : 2 ^ 32 ≤ n → last_piece bytes ≡ []
 
 -- The next text that is written: that for the next line, or the text after the last line.
 abbrev pub next_text : {S : Type 0} → LineSemantics S → S → List (List ℕ) → List ℕ
-next_text world s [] = last_text world s
-next_text world s (line ∷ more) = line_text world s line
+next_text semantics s [] = last_text semantics s
+next_text semantics s (line ∷ more) = line_text semantics s line
 
 -- The state after the next line. After the last line, the state stays the same.
 abbrev pub next_state : {S : Type 0} → LineSemantics S → S → List (List ℕ) → S
-next_state world s [] = s
-next_state world s (line ∷ more) = state_after world s line
+next_state semantics s [] = s
+next_state semantics s (line ∷ more) = state_after semantics s line
 
 -- The texts for the lines `first` were written, and writing the next text failed. The state is the one after the line
 -- of that text.
-pub record IsUnwritten {S : Type 0} (world : LineSemantics S) (s t : S) (bytes text : List ℕ) : Type 0 where
+pub record IsUnwritten {S : Type 0} (semantics : LineSemantics S) (s t : S) (bytes text : List ℕ) : Type 0 where
   pub first : List (List ℕ)
   pub others : List (List ℕ)
   pub front : List ℕ
   pub rest : List ℕ
   pub cut : lines bytes ≡ first ++ others
-  pub faultless : (played world 1 s first).fault ≡ None
-  pub written : text ≡ (played world 1 s first).text ++ front
-  pub broken : next_text world (played world 1 s first).state others ≡ front ++ rest
+  pub faultless : (played semantics 1 s first).fault ≡ None
+  pub written : text ≡ (played semantics 1 s first).text ++ front
+  pub broken : next_text semantics (played semantics 1 s first).state others ≡ front ++ rest
   pub missing : 0 < length rest
-  pub stands : t ≡ next_state world (played world 1 s first).state others
-  pub beginning : (missing : List ℕ) × (log world s bytes ≡ text ++ missing)
+  pub stands : t ≡ next_state semantics (played semantics 1 s first).state others
+  pub beginning : (missing : List ℕ) × (log semantics s bytes ≡ text ++ missing)
 
 -- The meaning of an ending after these bytes were read, this text was written, and the state changed from `s` to `t`.
 -- At the end of the log, `AtEnd` holds.
 abbrev pub EndingMeans : {S : Type 0} → LineSemantics S → S → S → List ℕ → List ℕ → Type 0 → Ending → Type 0
-EndingMeans world s t bytes text AtEnd Done = AtEnd
-EndingMeans world s t bytes text AtEnd (Refused fault) = IsRefused world s t bytes text fault
-EndingMeans world s t bytes text AtEnd (Unread n) = IsUnread world s t bytes text n
-EndingMeans world s t bytes text AtEnd Unwritten = IsUnwritten world s t bytes text
+EndingMeans semantics s t bytes text AtEnd Done = AtEnd
+EndingMeans semantics s t bytes text AtEnd (Refused fault) = IsRefused semantics s t bytes text fault
+EndingMeans semantics s t bytes text AtEnd (Unread n) = IsUnread semantics s t bytes text n
+EndingMeans semantics s t bytes text AtEnd Unwritten = IsUnwritten semantics s t bytes text
 
 -- The meaning of an ending for a part of a log, without the text after the last line.
 abbrev pub Plays : {S : Type 0} → LineSemantics S → S → S → List ℕ → List ℕ → Ending → Type 0
-Plays world s t bytes text ending = EndingMeans world s t bytes text (IsPlayed world s t bytes text) ending
+Plays semantics s t bytes text ending = EndingMeans semantics s t bytes text (IsPlayed semantics s t bytes text) ending
 
 -- Like `Plays`, without the condition on the packets that are sent.
 abbrev pub Writes : {S : Type 0} → LineSemantics S → S → S → List ℕ → List ℕ → Ending → Type 0
-Writes world s t bytes text ending = EndingMeans world s t bytes text (AreWritten world s t bytes text) ending
+Writes semantics s t bytes text ending = EndingMeans semantics s t bytes text (AreWritten semantics s t bytes text) ending
 
 -- The meaning of an ending for a whole log.
 abbrev pub PlaysWholeLog : {S : Type 0} → LineSemantics S → S → S → List ℕ → List ℕ → Ending → Type 0
-PlaysWholeLog world s t bytes text ending = EndingMeans world s t bytes text (IsDone world s t bytes text) ending
+PlaysWholeLog semantics s t bytes text ending = EndingMeans semantics s t bytes text (IsDone semantics s t bytes text) ending
 
 -- Like `PlaysWholeLog`. Also, without an error, the condition on the packets that are sent is true for each line.
 abbrev pub PlaysWholeLogWithMeters : {S A : Type 0} → LineSemantics S → S → S → List ℕ → List ℕ → Result A LogFault → Type 0
-PlaysWholeLogWithMeters world s t bytes text r = PlaysWholeLog world s t bytes text (ending_of r) × OnOk r (AllSend world s (lines bytes))
+PlaysWholeLogWithMeters semantics s t bytes text r = PlaysWholeLog semantics s t bytes text (ending_of r) × OnOk r (AllSend semantics s (lines bytes))
 
 -- Like `PlaysWholeLog`. Also, without an error, the result contains the meters at the end of the log.
 abbrev pub Logs : {S : Type 0} → LineSemantics S → S → S → List ℕ → List ℕ → Result Meters LogFault → Type 0
-Logs world s t bytes text r = PlaysWholeLog world s t bytes text (ending_of r) × IfOk r (λ m. m ≡ world.counts t)
+Logs semantics s t bytes text r = PlaysWholeLog semantics s t bytes text (ending_of r) × IfOk r (λ m. m ≡ semantics.counts t)
 
 -- The meaning of an ending for one line: its text was written; or the line is invalid, and nothing was written; or
 -- writing failed.
 abbrev pub PlaysLine : {S F : Type 0} → LineSemantics S → (F → Option (List ℕ)) → (F → ℕ) → ℕ → S → S → List ℕ → (F × F)
     → Ending → Type 0
-PlaysLine world taken failed n s t line target Done =
-    (parsed_line_fault world n s (parsed line) ≡ None) × (t ≡ state_after world s line) × SendsPackets world s (parsed line)
-    × WritesAll taken failed target (line_text world s line)
-PlaysLine world taken failed n s t line target (Refused fault) =
-    (parsed_line_fault world n s (parsed line) ≡ Some fault) × (t ≡ s) × Keeps (taken target.0) (taken target.1)
+PlaysLine semantics taken failed n s t line target Done =
+    (parsed_line_fault semantics n s (parsed line) ≡ None) × (t ≡ state_after semantics s line) × SendsPackets semantics s (parsed line)
+    × WritesAll taken failed target (line_text semantics s line)
+PlaysLine semantics taken failed n s t line target (Refused fault) =
+    (parsed_line_fault semantics n s (parsed line) ≡ Some fault) × (t ≡ s) × Keeps (taken target.0) (taken target.1)
     × (failed target.1 ≡ failed target.0)
-PlaysLine world taken failed n s t line target (Unread m) = ⊥
-PlaysLine world taken failed n s t line target Unwritten =
-    (parsed_line_fault world n s (parsed line) ≡ None) × (t ≡ state_after world s line)
-    × WriteFails taken failed target (line_text world s line)
+PlaysLine semantics taken failed n s t line target (Unread m) = ⊥
+PlaysLine semantics taken failed n s t line target Unwritten =
+    (parsed_line_fault semantics n s (parsed line) ≡ None) × (t ≡ state_after semantics s line)
+    × WriteFails taken failed target (line_text semantics s line)
 
 -- The meaning of an ending for the text after the last line: the text was written; or there is an error at the end of
 -- the log, and nothing was written; or writing failed.
 abbrev pub FinishesLog : {S F : Type 0} → LineSemantics S → (F → Option (List ℕ)) → (F → ℕ) → S → (F × F) → Ending → Type 0
-FinishesLog world taken failed s target Done = (world.lacks s ≡ None) × WritesAll taken failed target (world.ending s)
-FinishesLog world taken failed s target (Refused fault) =
-    (world.lacks s ≡ Some fault) × Keeps (taken target.0) (taken target.1) × (failed target.1 ≡ failed target.0)
-FinishesLog world taken failed s target (Unread n) = ⊥
-FinishesLog world taken failed s target Unwritten = (world.lacks s ≡ None) × WriteFails taken failed target (world.ending s)
+FinishesLog semantics taken failed s target Done = (semantics.lacks s ≡ None) × WritesAll taken failed target (semantics.ending s)
+FinishesLog semantics taken failed s target (Refused fault) =
+    (semantics.lacks s ≡ Some fault) × Keeps (taken target.0) (taken target.1) × (failed target.1 ≡ failed target.0)
+FinishesLog semantics taken failed s target (Unread n) = ⊥
+FinishesLog semantics taken failed s target Unwritten = (semantics.lacks s ≡ None) × WriteFails taken failed target (semantics.ending s)
 
 -- The errors that are possible for line `n` once its length and number were checked: an invalid line, a difference, or
 -- a failed write.
@@ -347,45 +347,45 @@ IsLineFault n TooManyLines = ⊥
 IsLineFault n (Memory m) = ⊥
 
 -- The bytes consist of `n - 1` complete and valid lines, and at most 256 bytes after them.
-pub record IsWithinLine {S : Type 0} (world : LineSemantics S) (s : S) (bytes : List ℕ) (n : ℕ) : Type 0 where
+pub record IsWithinLine {S : Type 0} (semantics : LineSemantics S) (s : S) (bytes : List ℕ) (n : ℕ) : Type 0 where
   pub before : List ℕ
   pub front : List ℕ
   pub cut : bytes ≡ before ++ front
   pub whole : last_piece before ≡ []
-  pub faultless : (played world 1 s (whole_lines before)).fault ≡ None
+  pub faultless : (played semantics 1 s (whole_lines before)).fault ≡ None
   pub count : n ≡ length (whole_lines before) + 1
   pub near : length front ≤ 256
 
 -- Line `n` was read completely, and this error is the first one in the lines up to `n`; or everything was read.
 abbrev pub IsFaultOfLinesRead : {S : Type 0} → LineSemantics S → S → List ℕ → Type 0 → ℕ → LogFault → Type 0
-IsFaultOfLinesRead world s bytes all n fault =
-    ((n ≤ length (whole_lines bytes)) × ((played world 1 s (take n (whole_lines bytes))).fault ≡ Some fault)) ⊎ all
+IsFaultOfLinesRead semantics s bytes all n fault =
+    ((n ≤ length (whole_lines bytes)) × ((played semantics 1 s (take n (whole_lines bytes))).fault ≡ Some fault)) ⊎ all
 
 -- How many bytes were read to find this error. For an invalid line, the line was read completely, or everything was
 -- read. For a line that is too long, exactly 256 bytes of it were read. For a difference, a line was read completely,
 -- as for an invalid line, or everything was read.
 abbrev pub ReadsUpToFault : {S : Type 0} → LineSemantics S → S → List ℕ → Type 0 → LogFault → Type 0
-ReadsUpToFault world s bytes all (BadLine n) = IsWithinLine world s bytes n × IsFaultOfLinesRead world s bytes all n (BadLine n)
-ReadsUpToFault world s bytes all (TooLong n) = IsWithinLine world s bytes n × (n ≡ length (whole_lines bytes) + 1)
+ReadsUpToFault semantics s bytes all (BadLine n) = IsWithinLine semantics s bytes n × IsFaultOfLinesRead semantics s bytes all n (BadLine n)
+ReadsUpToFault semantics s bytes all (TooLong n) = IsWithinLine semantics s bytes n × (n ≡ length (whole_lines bytes) + 1)
     × (length (last_piece bytes) ≡ 256)
-ReadsUpToFault world s bytes all (Differs line packet) =
-    ((n : ℕ) × IsWithinLine world s bytes n × IsFaultOfLinesRead world s bytes all n (Differs line packet))
-    ⊎ (((play_all world s bytes).fault ≡ None) × all)
-ReadsUpToFault world s bytes all TooManyLines = IsWithinLine world s bytes (2 ^ 32)
-ReadsUpToFault world s bytes all (Read n) = ⊥
-ReadsUpToFault world s bytes all Write = ⊥
-ReadsUpToFault world s bytes all (Memory n) = ⊥
+ReadsUpToFault semantics s bytes all (Differs line packet) =
+    ((n : ℕ) × IsWithinLine semantics s bytes n × IsFaultOfLinesRead semantics s bytes all n (Differs line packet))
+    ⊎ (((play_all semantics s bytes).fault ≡ None) × all)
+ReadsUpToFault semantics s bytes all TooManyLines = IsWithinLine semantics s bytes (2 ^ 32)
+ReadsUpToFault semantics s bytes all (Read n) = ⊥
+ReadsUpToFault semantics s bytes all Write = ⊥
+ReadsUpToFault semantics s bytes all (Memory n) = ⊥
 
 -- How many bytes were read at this ending. Nothing is stated unless the ending is an error in the log.
 abbrev pub ReadsUpToEnding : {S : Type 0} → LineSemantics S → S → List ℕ → Type 0 → Ending → Type 0
-ReadsUpToEnding world s bytes all (Refused fault) = ReadsUpToFault world s bytes all fault
-ReadsUpToEnding world s bytes all _ = Unit {0}
+ReadsUpToEnding semantics s bytes all (Refused fault) = ReadsUpToFault semantics s bytes all fault
+ReadsUpToEnding semantics s bytes all _ = Unit {0}
 
 -- If the ending is an error in the log, the source was read as far as `ReadsUpToFault` states.
 abbrev pub ReadsTo : {S : Type 0} → LineSemantics S → S → Option (List ℕ) → Option (List ℕ) → Type 0 → Ending → Type 0
-ReadsTo world s left left' all (Refused fault) = (bytes : List ℕ) × Consumes left left' bytes
-    × ReadsUpToFault world s bytes all fault
-ReadsTo world s left left' all _ = Unit {0}
+ReadsTo semantics s left left' all (Refused fault) = (bytes : List ℕ) × Consumes left left' bytes
+    × ReadsUpToFault semantics s bytes all fault
+ReadsTo semantics s left left' all _ = Unit {0}
 
 -- The errors that are possible at the end of a log: a missing packet, or a failed write of the text after the last
 -- line.

@@ -109,7 +109,7 @@ impl CheckPlayer {
 impl<const C: usize> Player<C> for CheckPlayer {
     ghost State = { Compared SessionState };
 
-    ghost world = { check_machine };
+    ghost semantics = { check_machine };
 
     ghost state = { λ c s. log_comparison s c.lines c.input c.found (due_packets c.awaited c.outbox) c.inputs c.packets };
 

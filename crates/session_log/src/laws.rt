@@ -12,7 +12,7 @@ ghost use Rattle.session_log.specs.Check.{IsFirstDifference, found_groups, input
 ghost use Rattle.session_log.specs.Check.{inputs};
 ghost use Rattle.session_log.specs.Lines.{lines};
 ghost use Rattle.session_log.specs.Replay.{fault_of, play_all};
-ghost use Rattle.session_log.specs.World.{need_lines, pieces_of, reports_need};
+ghost use Rattle.session_log.specs.Semantics.{need_lines, pieces_of, reports_need};
 ghost use Rattle.session_log.specs.Grammar.{parsed};
 ghost use Rattle.session_log.specs.Replay.{history_semantics, quiet_history};
 ghost use Rattle.session_log.specs.declared.fault.LogFault.TheVariants.{Differs};
@@ -46,7 +46,7 @@ pub fn making_quiet_is_idempotent()
 
 /// States that in a log without differences, the packets before the first input and after each input are exactly those
 /// that the definitions in specs/ give for the history, and the counts are the numbers of its inputs and packets.
-pub fn checked_logs_have_the_sent_packets()
+pub fn logs_without_differences_have_the_specified_packets()
     ensures same { (start : Start) (h : List OneInput) (bytes : List ℕ)
         → fault_of (check_history start) (play_all (check_history start) (first_comparison h) bytes) ≡ None
         → found_groups (lines bytes) ≡ [] ∷ sent_groups (history_semantics start) h (inputs (lines bytes)) }

@@ -5,9 +5,9 @@ ghost use Rattle.hex.specs.Hex.{encode_lower};
 ghost use Rattle.authn_core.specs.Views.{IsValidNeed};
 ghost use Rattle.authn_core.specs.Views.{to_needed};
 ghost use Rattle.session_log.specs.declared.line_writer.TheConstants.{MAX_TEXT_LEN, MAX_SIGNED_PER_LINE, SENT_LINE};
-ghost use Rattle.session_log.specs.World.{need_lines, pieces_of, signature_need_line, signed_line};
+ghost use Rattle.session_log.specs.Semantics.{need_lines, pieces_of, signature_need_line, signed_line};
 ghost use Rattle.session_log.specs.Replay.{FitsMeters};
-ghost use Rattle.session_log.specs.World.{ArePackets, IsPacket, with_line_feed, sent_text, tick_text, meters_line, same_line};
+ghost use Rattle.session_log.specs.Semantics.{ArePackets, IsPacket, with_line_feed, sent_text, tick_text, meters_line, same_line};
 ghost use Rattle.session_log.specs.Lines.{WritesLogLine};
 
 use crate::fault::LogFault;

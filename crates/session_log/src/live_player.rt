@@ -2,7 +2,7 @@
 ghost use Rattle.std.specs.Prelude.{◌≡◌, ◌<◌, ◌-◌, ◌^◌, List, [], OnOk};
 ghost use Rattle.session_log.specs.Command.{PlaysThrough};
 ghost use Rattle.session_log.specs.Replay.{ending_of, read_fails, write_fails};
-ghost use Rattle.session_log.specs.World.{is_need_line as is_one};
+ghost use Rattle.session_log.specs.Semantics.{is_need_line as is_one};
 ghost use Rattle.session_log.specs.Replay.{Logs, Plays, ReadsTo, Writes};
 ghost use Rattle.session_log.specs.Replay.{live_history, live_machine, Repeats, RepeatsIn};
 ghost use Rattle.token_session.specs.declared.input.Timed.{Timed as OneInput};
@@ -50,7 +50,7 @@ fn is_need_line(comment: &[u8]) -> bool
 impl<const C: usize> Player<C> for LivePlayer {
     ghost State = { SessionState };
 
-    ghost world = { live_machine };
+    ghost semantics = { live_machine };
 
     ghost state = { λ _ s. s };
 

@@ -3,7 +3,7 @@ ghost use Rattle.std.specs.Prelude.{◌≡◌, ◌<◌, ◌≤◌, ◌+◌, ◌-
 ghost use Rattle.session_log.specs.Command.{PlaysThrough};
 ghost use Rattle.session_log.specs.Replay.{ending_of};
 ghost use Rattle.session_log.specs.Replay.{IsLineFault, PlaysWholeLogWithMeters, Plays, PlaysLine};
-ghost use Rattle.session_log.specs.World.{with_line_feed};
+ghost use Rattle.session_log.specs.Semantics.{with_line_feed};
 
 use crate::fault::LogFault;
 use crate::line::{Line, parse_line};
@@ -19,15 +19,15 @@ pub trait Player<const C: usize> {
     ghost use Rattle.session_log.specs.Replay.{ending_of};
     ghost use Rattle.session_log.specs.Replay.{FinishesLog, IsEndFault, IsLineFault, PlaysLine};
     ghost use Rattle.session_log.specs.Grammar.{parsed};
-    ghost use Rattle.session_log.specs.World.{with_line_feed};
-    ghost use Rattle.session_log.specs.World.{LineSemantics};
+    ghost use Rattle.session_log.specs.Semantics.{with_line_feed};
+    ghost use Rattle.session_log.specs.Semantics.{LineSemantics};
     ghost use Rattle.token_session.specs.Meters.{SessionState};
 
     /// In contracts, the type of the states between lines.
     ghost State: { Type 0 };
 
     /// The definition of what the command does for each line.
-    ghost world: { LineSemantics State };
+    ghost semantics: { LineSemantics State };
 
     /// The state after the lines that were processed.
     ghost state: { Self → SessionState → State };
@@ -52,7 +52,7 @@ pub trait Player<const C: usize> {
         requires ended { text.now ≡ with_line_feed line.now }
         requires few { number < 2 ^ 32 }
         requires ready { IsReady self.old number }
-        ensures played { PlaysLine world T.taken T.failed number (state self.old session.old)
+        ensures played { PlaysLine semantics T.taken T.failed number (state self.old session.old)
             (state self.new session.new) line.now (writer.old, writer.new) (ending_of result) }
         ensures own { IfErr result (IsLineFault number) }
         ensures next { OnOk result (IsReady self.new (number + 1)) };
@@ -61,7 +61,7 @@ pub trait Player<const C: usize> {
     fn finish<T: Target>(&mut self, writer: &mut T, session: &Session<C>) -> Result<(), LogFault>
         requires write { T.failed writer.old < 2 ^ 64 - 1 }
         requires ready { (n : ℕ) × (n ≤ 2 ^ 32) × IsReady self.old n }
-        ensures closed { FinishesLog world T.taken T.failed (state self.old session.now) (writer.old, writer.new)
+        ensures closed { FinishesLog semantics T.taken T.failed (state self.old session.now) (writer.old, writer.new)
             (ending_of result) }
         ensures own { IfErr result IsEndFault }
         ensures same { (s : SessionState) → state self.new s ≡ state self.old s };
@@ -81,7 +81,7 @@ fn parse_and_process_line<P: Player<C>, T: Target, const C: usize>(
     requires ended { text.now ≡ with_line_feed line.now }
     requires few { number < 2 ^ 32 }
     requires ready { P.IsReady player.old number }
-    ensures played { PlaysLine P.world T.taken T.failed number (P.state player.old session.old)
+    ensures played { PlaysLine P.semantics T.taken T.failed number (P.state player.old session.old)
         (P.state player.new session.new) line.now (writer.old, writer.new) (ending_of result) }
     ensures own { IfErr result (IsLineFault number) }
     ensures next { OnOk result (P.IsReady player.new (number + 1)) }
@@ -107,7 +107,7 @@ fn process_first_line<P: Player<C>, T: Target, const C: usize>(
     requires short { length window.old ≤ 256 }
     requires few { number < 2 ^ 32 }
     requires ready { P.IsReady player.old number }
-    ensures played { PlaysLine P.world T.taken T.failed number (P.state player.old session.old)
+    ensures played { PlaysLine P.semantics T.taken T.failed number (P.state player.old session.old)
         (P.state player.new session.new) (take end window.old) (writer.old, writer.new) (ending_of result) }
     ensures own { IfErr result (IsLineFault number) }
     ensures next { OnOk result (P.IsReady player.new (number + 1)) }
@@ -137,8 +137,8 @@ pub fn process_lines<P: Player<C>, S: Source, T: Target, const C: usize>(
     requires read { S.failed reader.old < 2 ^ 64 - 1 }
     requires write { T.failed writer.old < 2 ^ 64 - 1 }
     requires ready { P.IsReady player.old 1 }
-    ensures played { PlaysThrough P.world (P.state player.old session.old)
-        (λ bytes text. Plays P.world (P.state player.old session.old) (P.state player.new session.new) bytes text
+    ensures played { PlaysThrough P.semantics (P.state player.old session.old)
+        (λ bytes text. Plays P.semantics (P.state player.old session.old) (P.state player.new session.new) bytes text
         (ending_of result)) S.left S.failed S.ended T.taken T.failed result (reader.old, reader.new)
         (writer.old, writer.new) }
     ensures ready { OnOk result ((n : ℕ) × (n ≤ 2 ^ 32) × P.IsReady player.new n) }
@@ -168,8 +168,8 @@ pub fn process_log<P: Player<C>, S: Source, T: Target, const C: usize>(
     requires read { S.failed reader.old < 2 ^ 64 - 1 }
     requires write { T.failed writer.old < 2 ^ 64 - 1 }
     requires ready { P.IsReady player.old 1 }
-    ensures { PlaysThrough P.world (P.state player.old session.old)
-        (λ bytes text. PlaysWholeLogWithMeters P.world (P.state player.old session.old) (P.state player.new session.new) bytes text
+    ensures { PlaysThrough P.semantics (P.state player.old session.old)
+        (λ bytes text. PlaysWholeLogWithMeters P.semantics (P.state player.old session.old) (P.state player.new session.new) bytes text
         result) S.left S.failed S.ended T.taken T.failed result (reader.old, reader.new) (writer.old, writer.new) }
 {
     process_lines(player, reader, writer, session)?;

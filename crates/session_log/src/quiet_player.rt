@@ -47,7 +47,7 @@ fn drop_packets(outbox: &mut Outbox)
 impl<const C: usize> Player<C> for QuietPlayer {
     ghost State = { SessionState };
 
-    ghost world = { quiet_machine };
+    ghost semantics = { quiet_machine };
 
     ghost state = { λ _ s. s };
 

@@ -48,7 +48,7 @@ impl ReplayPlayer {
 impl<const C: usize> Player<C> for ReplayPlayer {
     ghost State = { SessionState };
 
-    ghost world = { machine };
+    ghost semantics = { machine };
 
     ghost state = { λ _ s. s };
 

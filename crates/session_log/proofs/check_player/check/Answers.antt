@@ -1,6 +1,6 @@
 use Rattle.std.proofs.Common.{refl, subst}
 use Rattle.session_log.specs.{Check.check_machine, Command.PlaysThrough, Replay.ending_of, Replay.PlaysWholeLog}
-use Rattle.session_log.proofs.{Groups.standing, Worlds.checks_history, Worlds.makes}
+use Rattle.session_log.proofs.{Groups.standing, SemanticsLaws.checks_history, SemanticsLaws.makes}
 use Rattle.session_log.proofs.check_player.check.Goals as goal
 
 pub returns : goal.returns

@@ -1,6 +1,6 @@
 use Rattle.std.proofs.lemmas.Grind.{common_steps, flat_map-append}
 use Rattle.std.proofs.Common.{[], refl, sym, append_assoc, append-nil, arith}
-use Rattle.session_log.proofs.Worlds.{ArePackets-snoc}
+use Rattle.session_log.proofs.SemanticsLaws.{ArePackets-snoc}
 use Rattle.session_log.proofs.line_writer.push_packets.Goals as goal
 
 pub loop-packet-init : goal.loop-packet-init

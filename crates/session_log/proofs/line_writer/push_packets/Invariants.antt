@@ -1,5 +1,5 @@
 use Rattle.std.proofs.Common.{◌≡◌, ◌≤◌, ◌+◌, ◌*◌, ℕ, List, ◌++◌, length, flat_map}
-use Rattle.session_log.specs.{World.ArePackets, World.sent_text, declared.line_writer.TheConstants.SENT_LINE}
+use Rattle.session_log.specs.{Semantics.ArePackets, Semantics.sent_text, declared.line_writer.TheConstants.SENT_LINE}
 use Rattle.session_log.proofs.line_writer.push_packets.Given as goal
 
 -- what was appended and what is left are the packets

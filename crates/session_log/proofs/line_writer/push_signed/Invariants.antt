@@ -1,5 +1,5 @@
 use Rattle.std.proofs.Common.{◌≡◌, ◌≤◌, ◌+◌, ◌*◌, ◌/◌, ◌++◌, length, flat_map, map}
-use Rattle.session_log.specs.{World.pieces_of, World.signed_line, World.with_line_feed}
+use Rattle.session_log.specs.{Semantics.pieces_of, Semantics.signed_line, Semantics.with_line_feed}
 use Rattle.session_log.proofs.line_writer.push_signed.Given as goal
 
 -- what was appended, and the lines of what is left, are the lines

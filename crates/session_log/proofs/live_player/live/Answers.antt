@@ -1,8 +1,8 @@
 use Rattle.std.proofs.Common.{◌≡◌, Ok, Err, ap, ◌∙◌, subst}
 use Rattle.std.proofs.lemmas.Result.{err_from_is_err_and}
-use Rattle.session_log.{specs.Replay.FitsMeters, proofs.Through.on_err, proofs.Worlds.logs_fault, proofs.Worlds.logs_whole}
+use Rattle.session_log.{specs.Replay.FitsMeters, proofs.Through.on_err, proofs.SemanticsLaws.logs_fault, proofs.SemanticsLaws.logs_whole}
 use Rattle.session_log.specs.Replay.{live_history, live_machine, session_needs, session_semantics}
-use Rattle.session_log.proofs.Worlds.{live_follows, logs_history}
+use Rattle.session_log.proofs.SemanticsLaws.{live_follows, logs_history}
 use Rattle.session_log.proofs.Again.{live_again, live_logs, live_replayed, repeats_in, replay_logs}
 use Rattle.session_log.proofs.live_player.live.Goals as goal
 

@@ -1,4 +1,4 @@
-use Rattle.session_log.{specs.Replay.ending_of, proofs.Worlds.lines_history}
+use Rattle.session_log.{specs.Replay.ending_of, proofs.SemanticsLaws.lines_history}
 use Rattle.session_log.proofs.live_player.process_live_lines.Goals as goal
 
 pub returns : goal.returns

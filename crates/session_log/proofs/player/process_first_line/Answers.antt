@@ -1,5 +1,5 @@
 use Rattle.std.proofs.Common.{◌∙◌, List, ℕ, refl, ap, sym, subst, arith}
-use Rattle.session_log.specs.{Replay.ending_of, Replay.PlaysLine, World.with_line_feed}
+use Rattle.session_log.specs.{Replay.ending_of, Replay.PlaysLine, Semantics.with_line_feed}
 use Rattle.session_log.proofs.Cutting.{cut_twice, fits_in, fits_in_text, short_front}
 use Rattle.session_log.proofs.player.process_first_line.Goals as goal
 
@@ -30,7 +30,7 @@ returns g c =
     let says = c.parse_and_process_line-played.ensures in
     record {
       played = subst
-          (λ (l : List ℕ). PlaysLine g.P.Player.world g.T.Target.taken g.T.Target.failed c.args.number
+          (λ (l : List ℕ). PlaysLine g.P.Player.semantics g.T.Target.taken g.T.Target.failed c.args.number
           (state c.args.player.now c.args.session.now) (state new.player new.session) l (c.args.writer.now, new.writer)
           (ending_of c.parse_and_process_line-played.result)) cut.1 says.played;
       own = says.own;

@@ -3,7 +3,7 @@ use Rattle.std.proofs.{Common.arith, lemmas.List.nil_from_length, lemmas.Result.
 use Rattle.std.proofs.KnownBytes.{Consumes-nil, Appends-nil}
 use Rattle.session_log.specs.{Replay.ending_of_fault, Replay.ending_of, Replay.PlaysLine, Lines.IsAtEndOfInput}
 use Rattle.session_log.proofs.{Cutting.ends_in_feed, Cutting.last_text, Through.through_none, Through.played_none}
-use Rattle.session_log.proofs.{Worlds.stops, Cutting.in_count, Through.stops_unwritten}
+use Rattle.session_log.proofs.{SemanticsLaws.stops, Cutting.in_count, Through.stops_unwritten}
 use Rattle.session_log.proofs.Through.{read_on, goes_on, stops_reading, stops_in_front, ends, some_left}
 use Rattle.session_log.proofs.Through.{on_any, on_err, on_ok, counts_none, counts_on, plays_counts, plays_unread}
 use Rattle.session_log.proofs.Lasts.{faulty_in_front, faulty_last, none_bad}
@@ -41,7 +41,7 @@ returns-in_err-end g c =
     let stopped = c.in_err-end.ensures.stopped in
     let from = err_from_is_err_and r c.from_residual.ensures.1 in
     let is : r ≡ Err e = from.1 ∙ ap Err from.2 in
-    let world = g.P.Player.world in
+    let semantics = g.P.Player.semantics in
     let state = g.P.Player.state in
     let w = c.next_line.new.window in
     let i = g.S.Source.left c.args.reader.now in
@@ -52,7 +52,7 @@ returns-in_err-end g c =
     let all = IsAtEndOfInput g.S.Source.left g.S.Source.ended c.next_line.new.reader in
     record {
       played =
-          stops world (state c.args.player.now c.args.session.now) (state c.lines.player c.lines.session)
+          stops semantics (state c.args.player.now c.args.session.now) (state c.lines.player c.lines.session)
           g.S.Source.left g.S.Source.failed g.S.Source.ended g.T.Target.taken g.T.Target.failed
           c.args.reader.now c.next_line.new.reader c.args.writer.now c.lines.writer r e is
           (stops_reading before.4 i k first w read (g.T.Target.taken c.lines.writer) e before.3 stopped)
@@ -71,7 +71,7 @@ returns-in_err-process_first_line g c =
     let played = c.in_err-process_first_line.ensures.played in
     let from = err_from_is_err_and r c.from_residual-in_err-process_first_line.ensures.1 in
     let is : r ≡ Err e = from.1 ∙ ap Err from.2 in
-    let world = g.P.Player.world in
+    let semantics = g.P.Player.semantics in
     let state = g.P.Player.state in
     let new = c.process_first_line.new in
     let s = state c.lines.player c.lines.session in
@@ -86,14 +86,14 @@ returns-in_err-process_first_line g c =
     let read = read_on i (g.S.Source.left c.lines.reader) k before.0 c.lines.window w before.2 c.in_ok-end.ensures.bytes
     in
     let all = IsAtEndOfInput g.S.Source.left g.S.Source.ended c.next_line.new.reader in
-    let unread = plays_unread world taken failed c.lines.number s t line (c.lines.writer, new.writer) (ending_of_fault e)
+    let unread = plays_unread semantics taken failed c.lines.number s t line (c.lines.writer, new.writer) (ending_of_fault e)
     played in
-    let counts = plays_counts world taken failed c.lines.number s t line (c.lines.writer, new.writer) (ending_of_fault e)
+    let counts = plays_counts semantics taken failed c.lines.number s t line (c.lines.writer, new.writer) (ending_of_fault e)
     played in
     let reads = ◌∙◌ {b = g.S.Source.failed c.lines.reader} c.in_ok-end.ensures.reads c.lines.invariant.reads in
     record {
       played =
-          stops world (state c.args.player.now c.args.session.now) t g.S.Source.left g.S.Source.failed g.S.Source.ended
+          stops semantics (state c.args.player.now c.args.session.now) t g.S.Source.left g.S.Source.failed g.S.Source.ended
           taken failed c.args.reader.now c.next_line.new.reader c.args.writer.now new.writer r e is
           (stops_in_front before.4 i k first w read taken failed (c.lines.writer, new.writer) t before.3 c.in-Some.end
           has e played)
@@ -126,7 +126,7 @@ returns g c =
     let before = c.lines.invariant.done in
     let r = c.process_first_line-2.result in
     let new = c.process_first_line-2.new in
-    let world = g.P.Player.world in
+    let semantics = g.P.Player.semantics in
     let s = g.P.Player.state c.lines.player c.lines.session in
     let t = g.P.Player.state new.player new.session in
     let w = c.next_line.new.window in
@@ -141,12 +141,12 @@ returns g c =
     let from = taken c.args.writer.now in
     let read = read_on i (g.S.Source.left c.lines.reader) k before.0 c.lines.window w before.2 c.in_ok-end.ensures.bytes
     in
-    let played = subst (λ (l : List ℕ). PlaysLine world taken failed c.lines.number s t l (c.lines.writer, new.writer)
+    let played = subst (λ (l : List ℕ). PlaysLine semantics taken failed c.lines.number s t l (c.lines.writer, new.writer)
     (ending_of r)) last.0
     c.process_first_line-2.ensures.played in
-    let unread = plays_unread world taken failed c.lines.number s t w (c.lines.writer, new.writer) (ending_of r) played
+    let unread = plays_unread semantics taken failed c.lines.number s t w (c.lines.writer, new.writer) (ending_of r) played
     in
-    let counts = plays_counts world taken failed c.lines.number s t w (c.lines.writer, new.writer) (ending_of r) played
+    let counts = plays_counts semantics taken failed c.lines.number s t w (c.lines.writer, new.writer) (ending_of r) played
     in
     let reads = ◌∙◌ {b = g.S.Source.failed c.lines.reader} c.in_ok-end.ensures.reads c.lines.invariant.reads in
     record {

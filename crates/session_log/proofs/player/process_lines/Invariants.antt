@@ -15,7 +15,7 @@ invariant-lines g l =
       counted : l.number ≤ 2 ^ 32;
       done : (read : List ℕ) × (text : List ℕ) × Consumes (left l.fn.reader) (left l.reader) (read ++ l.window)
           × Appends (taken l.fn.writer) (taken l.writer) text
-          × Through g.P.Player.world (g.P.Player.state l.fn.player l.fn.session) read text
+          × Through g.P.Player.semantics (g.P.Player.state l.fn.player l.fn.session) read text
           (g.P.Player.state l.player l.session) l.number;
     }
 

@@ -1,5 +1,5 @@
 use Rattle.std.proofs.Common.{arith}
-use Rattle.session_log.proofs.{Worlds.quiets_history, Worlds.makes}
+use Rattle.session_log.proofs.{SemanticsLaws.quiets_history, SemanticsLaws.makes}
 use Rattle.session_log.proofs.quiet_player.quiet.Goals as goal
 
 pub returns : goal.returns

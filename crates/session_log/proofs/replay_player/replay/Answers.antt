@@ -1,8 +1,8 @@
 use Rattle.std.proofs.Common.{◌≡◌, Ok, Err, ap, ◌∙◌, subst}
 use Rattle.std.proofs.lemmas.Result.{err_from_is_err_and}
 use Rattle.session_log.specs.{Replay.FitsMeters, Replay.history, Replay.machine, Replay.session_semantics}
-use Rattle.session_log.proofs.{Through.on_err, Worlds.logs_fault, Worlds.logs_whole}
-use Rattle.session_log.proofs.Worlds.{follows, logs_history, logs_told}
+use Rattle.session_log.proofs.{Through.on_err, SemanticsLaws.logs_fault, SemanticsLaws.logs_whole}
+use Rattle.session_log.proofs.SemanticsLaws.{follows, logs_history, logs_told}
 use Rattle.session_log.proofs.Again.{repeats_in, replay_again, replay_logs}
 use Rattle.session_log.proofs.replay_player.replay.Goals as goal
 

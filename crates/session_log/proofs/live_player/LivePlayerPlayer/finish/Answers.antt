@@ -1,5 +1,5 @@
 use Rattle.std.proofs.Common.{refl, ap}
-use Rattle.session_log.{specs.Replay.live_machine, specs.World.meters_line, proofs.Groups.closes_by}
+use Rattle.session_log.{specs.Replay.live_machine, specs.Semantics.meters_line, proofs.Groups.closes_by}
 use Rattle.session_log.proofs.live_player.LivePlayerPlayer.finish.Goals as goal
 
 pub returns : goal.returns

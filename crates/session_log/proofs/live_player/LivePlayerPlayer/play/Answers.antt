@@ -1,8 +1,8 @@
 use Rattle.std.proofs.Common.{◌≡◌, Bool, cond, Some, [], flat_map, ◌++◌, refl, sym, ◌∙◌, ap, subst}
 use Rattle.authn_core.specs.{Views.IsValidNeed, Views.to_needed}
 use Rattle.token_session.specs.Meters.{stepped}
-use Rattle.session_log.specs.{Replay.live_machine, Replay.session_needs, World.need_lines, Grammar.parsed}
-use Rattle.session_log.specs.World.{ArePackets, with_line_feed, sent_text}
+use Rattle.session_log.specs.{Replay.live_machine, Replay.session_needs, Semantics.need_lines, Grammar.parsed}
+use Rattle.session_log.specs.Semantics.{ArePackets, with_line_feed, sent_text}
 use Rattle.session_log.specs.declared.line.Line.TheVariants.{Comment, Input}
 use Rattle.session_log.proofs.Groups.{drops, fits_ended, writes_for, writes_none}
 use Rattle.session_log.proofs.live_player.LivePlayerPlayer.play.Goals as goal

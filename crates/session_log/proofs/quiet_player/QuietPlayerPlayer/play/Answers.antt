@@ -1,5 +1,5 @@
 use Rattle.std.proofs.Common.{◌≡◌, Bool, cond, Some, refl, sym, ◌∙◌, ap}
-use Rattle.session_log.specs.{Replay.quiet_machine, Grammar.parsed, World.with_line_feed, World.tick_text}
+use Rattle.session_log.specs.{Replay.quiet_machine, Grammar.parsed, Semantics.with_line_feed, Semantics.tick_text}
 use Rattle.session_log.specs.declared.line.Line.TheVariants.{Comment, Input}
 use Rattle.session_log.proofs.Groups.{drops, writes_for}
 use Rattle.session_log.proofs.quiet_player.QuietPlayerPlayer.play.Goals as goal

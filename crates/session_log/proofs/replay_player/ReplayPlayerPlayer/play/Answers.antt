@@ -1,5 +1,5 @@
 use Rattle.std.proofs.Common.{◌≡◌, Some, flat_map, ◌++◌, refl, ◌∙◌, ap, subst}
-use Rattle.session_log.specs.{Replay.machine, Grammar.parsed, World.ArePackets, World.sent_text}
+use Rattle.session_log.specs.{Replay.machine, Grammar.parsed, Semantics.ArePackets, Semantics.sent_text}
 use Rattle.session_log.specs.declared.line.Line.TheVariants.{Comment, Input}
 use Rattle.session_log.proofs.Groups.{drops, fits_ended, writes_for}
 use Rattle.session_log.proofs.replay_player.ReplayPlayerPlayer.play.Goals as goal

@@ -120,8 +120,8 @@ replay_text course s line Comment = with_line_feed line
 replay_text course s line Count = []
 
 -- The semantics of `replay`.
-abbrev pub replay_world : {S : Type 0} → InputSemantics S → LineSemantics S
-replay_world course = record {
+abbrev pub replay_semantics : {S : Type 0} → InputSemantics S → LineSemantics S
+replay_semantics course = record {
   stops = λ s l. None;
   moves = state_after_line course;
   sound = sends_packets course;
@@ -141,8 +141,8 @@ quiet_text noises s line Comment = with_line_feed line
 quiet_text noises s line Count = []
 
 -- The semantics of `quiet`.
-abbrev pub quiet_world : {S : Type 0} → InputSemantics S → (S → Timed → Bool) → LineSemantics S
-quiet_world course noises = record {
+abbrev pub quiet_semantics : {S : Type 0} → InputSemantics S → (S → Timed → Bool) → LineSemantics S
+quiet_semantics course noises = record {
   stops = λ s l. None;
   moves = state_after_line course;
   sound = λ s l. Unit {0};
@@ -172,8 +172,8 @@ live_text course needs s line Comment = if is_need_line line then [] else with_l
 live_text course needs s line Count = []
 
 -- The semantics of `live`.
-abbrev pub live_world : {S : Type 0} → InputSemantics S → (S → Needed) → LineSemantics S
-live_world course needs = record {
+abbrev pub live_semantics : {S : Type 0} → InputSemantics S → (S → Needed) → LineSemantics S
+live_semantics course needs = record {
   stops = λ s l. None;
   moves = state_after_line course;
   sound = sends_needs course needs;

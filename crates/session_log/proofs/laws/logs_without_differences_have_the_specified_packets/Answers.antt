@@ -1,7 +1,7 @@
 use Rattle.std.proofs.Common.{arith}
 use Rattle.session_log.specs.{Check.first_comparison, Lines.lines, Replay.history_semantics}
 use Rattle.session_log.proofs.Groups.{check_is_silent, same_groups, counts_on}
-use Rattle.session_log.proofs.laws.checked_logs_have_the_sent_packets.Goals as goal
+use Rattle.session_log.proofs.laws.logs_without_differences_have_the_specified_packets.Goals as goal
 
 pub returns-clause-same : goal.returns-clause-same
 returns-clause-same c = λ start h bytes sound. same_groups (history_semantics start) 1 (first_comparison h) (lines bytes) sound
