@@ -10,7 +10,7 @@ use Rattle.session_log.specs.Grammar.{parsed}
 use Rattle.session_log.specs.Replay.{Done, Refused, Unwritten, Ending, Unread, ending_of_fault, ending_of, read_fails}
 use Rattle.session_log.specs.Replay.{write_fails}
 use Rattle.session_show.specs.Shown.{ShowsLine, AreLineTexts, IsShownText, LineTextRule, Shows, WritesEnd, WritesLine}
-use Rattle.session_show.specs.Shown.{ShownLine, failures_of, read_only_world, rule_for_format, unknown_bytes}
+use Rattle.session_show.specs.Shown.{ShownLine, failures_of, read_only_semantics, rule_for_format, unknown_bytes}
 use Rattle.std.proofs.KnownBytes.{Appends-trans, Appends-kept}
 use Rattle.std.specs.Io.KnownBytes.{Appends, Consumes, Keeps}
 use Rattle.session_log.specs.Lines.{WritesAll, WritesText, OnlyAppends}
@@ -20,7 +20,7 @@ use Rattle.std.proofs.lemmas.Grind.{flat_map-append}
 use Rattle.session_log.specs.Replay.{ReadsTo, IsRefused, IsUnread, IsPlayed, IsUnwritten}
 use Rattle.session_log.specs.Lines.{lines}
 use Rattle.session_log.specs.Replay.{SendsPackets}
-use Rattle.session_log.specs.World.{with_line_feed}
+use Rattle.session_log.specs.Semantics.{with_line_feed}
 use Rattle.session_log.specs.Replay.{Played, line_fault, parsed_line_fault, output_of, played, with_text_before}
 use Rattle.session_log.specs.Replay.{parsed_line_text, line_text}
 use Rattle.session_log.specs.Lines.{HasLine, IsUnfinished, Stops}
@@ -96,21 +96,21 @@ one_told shows m n [] t is all one = (subst (λ (k : ℕ). shows k (Some t.line)
 one_told shows m n (first ∷ more) t is all one = (all.0, one_told shows (m + 1) n more t (omega (arith, is)) all.1 one)
 
 -- the text of a line that isn't faulty is the line
-line_itself : (n : ℕ) (line : List ℕ) (o : Option Line) → parsed_line_fault read_only_world n tt o ≡ None →
-    parsed_line_text read_only_world tt line o ≡ with_line_feed line
+line_itself : (n : ℕ) (line : List ℕ) (o : Option Line) → parsed_line_fault read_only_semantics n tt o ≡ None →
+    parsed_line_text read_only_semantics tt line o ≡ with_line_feed line
 line_itself n line None sound = cc
 line_itself n line (Some l) sound = refl
 
 -- one more line was shown
 pub told_line : (shows : LineTextRule) (shown text line piece : List ℕ) (n : ℕ) (t : IsShownText shows
-    shown text) → n ≡ length t.told + 1 → parsed_line_fault read_only_world n tt (parsed line) ≡ None → shows n (Some line) piece
-    → (u : IsShownText shows (shown ++ line_text read_only_world tt line) (text ++ piece)) × (n + 1 ≡ length u.told + 1)
+    shown text) → n ≡ length t.told + 1 → parsed_line_fault read_only_semantics n tt (parsed line) ≡ None → shows n (Some line) piece
+    → (u : IsShownText shows (shown ++ line_text read_only_semantics tt line) (text ++ piece)) × (n + 1 ≡ length u.told + 1)
 told_line shows shown text line piece n t count sound one =
     let last : ShownLine = record { line = line; text = piece } in (
       record {
         told = t.told ++ last ∷ [];
         lines_are =
-            ap (λ (l : List ℕ). l ++ line_text read_only_world tt line) t.lines_are
+            ap (λ (l : List ℕ). l ++ line_text read_only_semantics tt line) t.lines_are
             ∙ ap (λ (l : List ℕ). flat_map (λ (u : ShownLine). with_line_feed u.line) t.told ++ l)
             (line_itself n line (parsed line) sound ∙ sym (append-nil (with_line_feed line)))
             ∙ sym (flat_map-append (λ (u : ShownLine). with_line_feed u.line) t.told (last ∷ []));
@@ -125,39 +125,39 @@ told_line shows shown text line piece n t count sound one =
 
 -- the line in front was shown
 pub shown_on : (left left' : Option (List ℕ)) (read shown w rest line : List ℕ) (n end : ℕ) →
-    Consumes left left' (read ++ w) → Through read_only_world tt read shown tt n → HasLine n w end → line ≡ take end w
-    → rest ≡ drop (end + 1) w → parsed_line_fault read_only_world n tt (parsed line) ≡ None → SendsPackets read_only_world tt (parsed line)
+    Consumes left left' (read ++ w) → Through read_only_semantics tt read shown tt n → HasLine n w end → line ≡ take end w
+    → rest ≡ drop (end + 1) w → parsed_line_fault read_only_semantics n tt (parsed line) ≡ None → SendsPackets read_only_semantics tt (parsed line)
     → Consumes left left' ((read ++ take (end + 1) w) ++ rest)
-    × Through read_only_world tt (read ++ take (end + 1) w) (shown ++ line_text read_only_world tt line) tt (n + 1)
+    × Through read_only_semantics tt (read ++ take (end + 1) w) (shown ++ line_text read_only_semantics tt line) tt (n + 1)
 shown_on left left' read shown w rest line n end p through has is_line is_rest sound packets =
     let front = take (end + 1) w in
     let whole : read ++ w ≡ (read ++ front) ++ rest =
     ap (λ (l : List ℕ). read ++ l) (sym (take-append-drop (end + 1) w))
     ∙ sym (append_assoc read front (drop (end + 1) w)) ∙ ap (λ (l : List ℕ). (read ++ front) ++ l) (sym is_rest) in
-    let faultless = said_fault read_only_world n tt line has.counted
+    let faultless = said_fault read_only_semantics n tt line has.counted
     (omega (arith, ap length is_line, short_in_front w n end has)) ∙ sound in (
       subst (Consumes left left') whole p,
-      subst (λ (l : List ℕ). Through read_only_world tt (read ++ front) (shown ++ line_text read_only_world tt l) tt (n + 1))
+      subst (λ (l : List ℕ). Through read_only_semantics tt (read ++ front) (shown ++ line_text read_only_semantics tt l) tt (n + 1))
           (sym is_line)
-          (through_line through w end has.feed (subst (λ (l : List ℕ). line_fault read_only_world n tt l ≡ None) is_line
+          (through_line through w end has.feed (subst (λ (l : List ℕ). line_fault read_only_semantics n tt l ≡ None) is_line
           faultless)
-          (subst (λ (l : List ℕ). SendsPackets read_only_world tt (parsed l)) is_line packets)),
+          (subst (λ (l : List ℕ). SendsPackets read_only_semantics tt (parsed l)) is_line packets)),
     )
 
 -- no line could be read
 pub told_to_read : (shows : LineTextRule) (left left' start taken : Option (List ℕ))
     (read shown text w : List ℕ) (n : ℕ) (e : LogFault)
-    → Consumes left left' (read ++ w) → Through read_only_world tt read shown tt n → Appends start taken text →
+    → Consumes left left' (read ++ w) → Through read_only_semantics tt read shown tt n → Appends start taken text →
     IsShownText shows shown text → Stops n w e → Shows shows (left, left') (start, taken) (ending_of_fault e)
 told_to_read shows left left' start taken read shown text w n TooManyLines p through q told h =
     let some = some_line w h.1 in
-    (read ++ w, text, p, q, (shown, refused through w some.0 some.1 TooManyLines some.2 (too_many read_only_world n tt some.0 h.0), told))
+    (read ++ w, text, p, q, (shown, refused through w some.0 some.1 TooManyLines some.2 (too_many read_only_semantics n tt some.0 h.0), told))
 told_to_read shows left left' start taken read shown text w n (TooLong k) p through q told h =
     let long : 256 ≤ length w = omega (arith, h.3) in
-    let is = refused through w w [] (TooLong n) (last_line w h.2 (omega arith)) (too_long read_only_world n tt w h.1 long) in
-    (read ++ w, text, p, q, (shown, subst (λ (k : ℕ). IsRefused read_only_world tt tt (read ++ w) shown (TooLong k)) (sym h.0) is, told))
+    let is = refused through w w [] (TooLong n) (last_line w h.2 (omega arith)) (too_long read_only_semantics n tt w h.1 long) in
+    (read ++ w, text, p, q, (shown, subst (λ (k : ℕ). IsRefused read_only_semantics tt tt (read ++ w) shown (TooLong k)) (sym h.0) is, told))
 told_to_read shows left left' start taken read shown text w n (Read k) p through q told h =
-    (read ++ w, text, p, q, (shown, subst (λ (k : ℕ). IsUnread read_only_world tt tt (read ++ w) shown k) (sym h.0) (unread through w h.1), told))
+    (read ++ w, text, p, q, (shown, subst (λ (k : ℕ). IsUnread read_only_semantics tt tt (read ++ w) shown k) (sym h.0) (unread through w h.1), told))
 told_to_read shows left left' start taken read shown text w n (BadLine k) p through q told h = absurd h
 told_to_read shows left left' start taken read shown text w n (Differs l k) p through q told h = absurd h
 told_to_read shows left left' start taken read shown text w n (Memory k) p through q told h = absurd h
@@ -166,9 +166,9 @@ told_to_read shows left left' start taken read shown text w n Write p through q 
 -- a line was faulty, and nothing was written for it
 told_to_fault : (shows : LineTextRule) (left left' start taken taken' : Option (List ℕ))
     (read shown text w line : List ℕ) (more : List (List ℕ)) (n : ℕ) (fault : LogFault)
-    → Consumes left left' (read ++ w) → Through read_only_world tt read shown tt n → Appends start taken text →
+    → Consumes left left' (read ++ w) → Through read_only_semantics tt read shown tt n → Appends start taken text →
     IsShownText shows shown text → lines w ≡ line ∷ more → length line < 256 → n < 2 ^ 32
-    → parsed_line_fault read_only_world n tt (parsed line) ≡ Some fault → Keeps taken taken' →
+    → parsed_line_fault read_only_semantics n tt (parsed line) ≡ Some fault → Keeps taken taken' →
     Shows shows (left, left') (start, taken') (Refused fault)
 told_to_fault shows left left' start taken taken' read shown text w line more n fault p through q told first short few
     bad kept = (
@@ -176,13 +176,13 @@ told_to_fault shows left left' start taken taken' read shown text w line more n 
       text,
       p,
       Appends-kept start taken taken' text q kept,
-      (shown, refused through w line more fault first (said_fault read_only_world n tt line few short ∙ bad), told),
+      (shown, refused through w line more fault first (said_fault read_only_semantics n tt line few short ∙ bad), told),
     )
 
 -- a line was faulty, or its text broke off
 pub told_to_line : (shows : LineTextRule) (left left' start taken taken' : Option (List ℕ))
     (failures : ℕ × ℕ) (read shown text w line : List ℕ) (more : List (List ℕ)) (n : ℕ) (e : LogFault)
-    → Consumes left left' (read ++ w) → Through read_only_world tt read shown tt n → Appends start taken text →
+    → Consumes left left' (read ++ w) → Through read_only_semantics tt read shown tt n → Appends start taken text →
     IsShownText shows shown text → lines w ≡ line ∷ more → length line < 256 → n < 2 ^ 32
     → ShowsLine n line failures (ending_of_fault e) → WritesLine shows n line (taken, taken') (ending_of_fault e) →
     Shows shows (left, left') (start, taken') (ending_of_fault e)
@@ -217,9 +217,9 @@ told_to_line shows left left' start taken taken' failures read shown text w line
 -- behind the last line, which is line n: the text there was written, or broke off
 pub told_behind : {F : Type 0} (shows : LineTextRule) (taken : F → Option (List ℕ)) (failed : F → ℕ)
     (r : Result (Unit {0}) LogFault) (left left' start : Option (List ℕ)) (target : F × F) (bytes shown text : List ℕ)
-    (n : ℕ) → Consumes left left' bytes → IsPlayed read_only_world tt tt bytes shown → Appends start (taken target.0) text →
+    (n : ℕ) → Consumes left left' bytes → IsPlayed read_only_semantics tt tt bytes shown → Appends start (taken target.0) text →
     (t : IsShownText shows shown text) → n ≡ length t.told
-    → ((front : List ℕ) × IsUnwritten read_only_world tt tt bytes front) → WritesEnd shows taken failed n target (ending_of r) →
+    → ((front : List ℕ) × IsUnwritten read_only_semantics tt tt bytes front) → WritesEnd shows taken failed n target (ending_of r) →
     Shows shows (left, left') (start, taken target.1) (ending_of r)
 told_behind shows taken failed (Ok x) left left' start target bytes shown text n p played q told count off tells = (
   bytes,
@@ -263,14 +263,14 @@ some_ended : (line : List ℕ) → 0 < length (with_line_feed line)
 some_ended line = omega (arith, length-append line (10 ∷ []))
 
 -- the last piece was shown
-pub told_last : (shows : LineTextRule) (read shown text w piece : List ℕ) (n : ℕ) → Through read_only_world tt read shown tt n
+pub told_last : (shows : LineTextRule) (read shown text w piece : List ℕ) (n : ℕ) → Through read_only_semantics tt read shown tt n
     → (t : IsShownText shows shown text) → n ≡ length t.told + 1 → IsUnfinished n w → 0 < length w
-    → parsed_line_fault read_only_world n tt (parsed w) ≡ None → SendsPackets read_only_world tt (parsed w) → shows n (Some w) piece
-    → IsPlayed read_only_world tt tt (read ++ w) (shown ++ line_text read_only_world tt w)
-    × ((u : IsShownText shows (shown ++ line_text read_only_world tt w) (text ++ piece)) × (n ≡ length u.told))
-    × ((front : List ℕ) × IsUnwritten read_only_world tt tt (read ++ w) front)
+    → parsed_line_fault read_only_semantics n tt (parsed w) ≡ None → SendsPackets read_only_semantics tt (parsed w) → shows n (Some w) piece
+    → IsPlayed read_only_semantics tt tt (read ++ w) (shown ++ line_text read_only_semantics tt w)
+    × ((u : IsShownText shows (shown ++ line_text read_only_semantics tt w) (text ++ piece)) × (n ≡ length u.told))
+    × ((front : List ℕ) × IsUnwritten read_only_semantics tt tt (read ++ w) front)
 told_last shows read shown text w piece n through told count u some sound packets one =
-    let faultless = said_fault read_only_world n tt w (in_count n w u.counted some) u.short ∙ sound in
+    let faultless = said_fault read_only_semantics n tt w (in_count n w u.counted some) u.short ∙ sound in
     let more = told_line shows shown text w piece n told count sound one in (
       played_last through w (last_line w u.no_feed some) faultless packets,
       (more.0, omega (arith, more.1)),
@@ -288,10 +288,10 @@ is_sound : (o : Option LogFault) (rest : Played (Unit {0}))
 is_sound None rest h = refl
 is_sound (Some f) rest h = cc h
 
-first_sound : (n : ℕ) (line : List ℕ) (more : List (List ℕ)) → (played read_only_world n tt (line ∷ more)).fault ≡ None →
-    line_fault read_only_world n tt line ≡ None
+first_sound : (n : ℕ) (line : List ℕ) (more : List (List ℕ)) → (played read_only_semantics n tt (line ∷ more)).fault ≡ None →
+    line_fault read_only_semantics n tt line ≡ None
 first_sound n line more h =
-    is_sound (line_fault read_only_world n tt line) (with_text_before (line_text read_only_world tt line) (played read_only_world (n + 1) tt more)) h
+    is_sound (line_fault read_only_semantics n tt line) (with_text_before (line_text read_only_semantics tt line) (played read_only_semantics (n + 1) tt more)) h
 
 is_parsed : (many long : Bool) (n : ℕ) (o : Option LogFault)
     → cond many (Some TooManyLines) (cond long (Some (TooLong n)) o) ≡ None → o ≡ None
@@ -299,34 +299,34 @@ is_parsed true long n o h = cc h
 is_parsed false true n o h = cc h
 is_parsed false false n o h = h
 
-parsed_sound : (n : ℕ) (line : List ℕ) → line_fault read_only_world n tt line ≡ None → parsed_line_fault read_only_world n tt (parsed line) ≡ None
+parsed_sound : (n : ℕ) (line : List ℕ) → line_fault read_only_semantics n tt line ≡ None → parsed_line_fault read_only_semantics n tt (parsed line) ≡ None
 parsed_sound n line h =
-    is_parsed (nat_le (2 ^ 32) n) (nat_lt 255 (length line)) n (parsed_line_fault read_only_world n tt (parsed line)) h
+    is_parsed (nat_le (2 ^ 32) n) (nat_lt 255 (length line)) n (parsed_line_fault read_only_semantics n tt (parsed line)) h
 
 -- what lines come to, and those before the last one
 played_front : (n : ℕ) (front : List (List ℕ)) (line : List ℕ)
-    → (played read_only_world n tt (front ++ line ∷ [])).fault ≡ None
-    → ((played read_only_world n tt front).fault ≡ None)
-    × ((m : ℕ) × (parsed_line_fault read_only_world m tt (parsed line) ≡ None))
-    × ((played read_only_world n tt (front ++ line ∷ [])).text ≡ (played read_only_world n tt front).text ++ line_text read_only_world tt line)
+    → (played read_only_semantics n tt (front ++ line ∷ [])).fault ≡ None
+    → ((played read_only_semantics n tt front).fault ≡ None)
+    × ((m : ℕ) × (parsed_line_fault read_only_semantics m tt (parsed line) ≡ None))
+    × ((played read_only_semantics n tt (front ++ line ∷ [])).text ≡ (played read_only_semantics n tt front).text ++ line_text read_only_semantics tt line)
 played_front n [] line h =
     let sound = first_sound n line [] h in (
       refl,
       (n, parsed_sound n line sound),
-      ap (λ (p : Played (Unit {0})). p.text) (played_sound read_only_world n tt line [] sound)
-          ∙ append-nil (line_text read_only_world tt line),
+      ap (λ (p : Played (Unit {0})). p.text) (played_sound read_only_semantics n tt line [] sound)
+          ∙ append-nil (line_text read_only_semantics tt line),
     )
 played_front n (x ∷ xs) line h =
     let sound = first_sound n x (xs ++ line ∷ []) h in
-    let all = played_sound read_only_world n tt x (xs ++ line ∷ []) sound in
-    let front = played_sound read_only_world n tt x xs sound in
+    let all = played_sound read_only_semantics n tt x (xs ++ line ∷ []) sound in
+    let front = played_sound read_only_semantics n tt x xs sound in
     let more = played_front (n + 1) xs line (sym (ap (λ (p : Played (Unit {0})). p.fault) all) ∙ h) in (
       ap (λ (p : Played (Unit {0})). p.fault) front ∙ more.0,
       more.1,
       ap (λ (p : Played (Unit {0})). p.text) all
-          ∙ ap (λ (l : List ℕ). line_text read_only_world tt x ++ l) more.2
-          ∙ sym (append_assoc (line_text read_only_world tt x) (played read_only_world (n + 1) tt xs).text (line_text read_only_world tt line))
-          ∙ ap (λ (p : Played (Unit {0})). p.text ++ line_text read_only_world tt line) (sym front),
+          ∙ ap (λ (l : List ℕ). line_text read_only_semantics tt x ++ l) more.2
+          ∙ sym (append_assoc (line_text read_only_semantics tt x) (played read_only_semantics (n + 1) tt xs).text (line_text read_only_semantics tt line))
+          ∙ ap (λ (p : Played (Unit {0})). p.text ++ line_text read_only_semantics tt line) (sym front),
     )
 
 last_of : (x : List ℕ) (xs : List (List ℕ)) →
@@ -341,14 +341,14 @@ some_last [] some = absurd (omega (arith, some))
 some_last (x ∷ xs) some = last_of x xs
 
 -- of whole lines that were shown the last one's text may have broken off
-pub unwritten_back : {read shown : List ℕ} {n : ℕ} → Through read_only_world tt read shown tt n → 1 < n →
-    (front : List ℕ) × IsUnwritten read_only_world tt tt (read ++ []) front
+pub unwritten_back : {read shown : List ℕ} {n : ℕ} → Through read_only_semantics tt read shown tt n → 1 < n →
+    (front : List ℕ) × IsUnwritten read_only_semantics tt tt (read ++ []) front
 unwritten_back {read} {shown} {n} t more =
     let split = some_last t.done (omega (arith, t.count, more)) in
-    let all : played read_only_world 1 tt (split.0 ++ split.1 ∷ []) ≡ with_text_before shown (played read_only_world n tt []) =
-    ap (played read_only_world 1 tt) (sym split.2 ∙ sym (append-nil t.done)) ∙ t.plays [] in
+    let all : played read_only_semantics 1 tt (split.0 ++ split.1 ∷ []) ≡ with_text_before shown (played read_only_semantics n tt []) =
+    ap (played read_only_semantics 1 tt) (sym split.2 ∙ sym (append-nil t.done)) ∙ t.plays [] in
     let found = played_front 1 split.0 split.1 (ap (λ (p : Played (Unit {0})). p.fault) all) in
-    let front = (played read_only_world 1 tt split.0).text in
+    let front = (played read_only_semantics 1 tt split.0).text in
     let are : lines (read ++ []) ≡ split.0 ++ split.1 ∷ [] = lines_are t [] ∙ append-nil t.done ∙ split.2 in
     let itself = line_itself found.1.0 split.1 (parsed split.1) found.1.1 in (
       front ++ [],
@@ -365,8 +365,8 @@ unwritten_back {read} {shown} {n} t more =
         stands = refl;
         beginning = (
           with_line_feed split.1,
-          ap (λ (l : List (List ℕ)). output_of read_only_world (played read_only_world 1 tt l)) are
-              ∙ ap (output_of read_only_world) all
+          ap (λ (l : List (List ℕ)). output_of read_only_semantics (played read_only_semantics 1 tt l)) are
+              ∙ ap (output_of read_only_semantics) all
               ∙ append-nil (shown ++ [])
               ∙ sym (ap (λ (p : Played (Unit {0})). p.text) all)
               ∙ found.2
@@ -388,7 +388,7 @@ behind_nothing Objects n = tt
 -- of the end of what is shown: no read failed, and no line was faulty
 module _ {F : Type 0} (shows : LineTextRule) (taken : F → Option (List ℕ)) (failed : F → ℕ) (n : ℕ) (target : F × F) where
   pub behind_reach : (q : Ending) (a b : Option (List ℕ)) (all : Type 0) → WritesEnd shows taken failed n target q →
-      ReadsTo read_only_world tt a b all q
+      ReadsTo read_only_semantics tt a b all q
   behind_reach Done a b all h = tt
   behind_reach (Refused fault) a b all h = absurd h
   behind_reach (Unread m) a b all h = tt

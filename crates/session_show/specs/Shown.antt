@@ -6,7 +6,7 @@ use Rattle.std.specs.Bool.{MatchBool}
 use Rattle.std.specs.Io.KnownBytes.{Appends, Keeps}
 use Rattle.session_log.specs.Replay.{Done, Ending, Refused, Unread, Unwritten, Plays, PlaysLine}
 use Rattle.session_log.specs.Grammar.{parsed}
-use Rattle.session_log.specs.World.{with_line_feed, LineSemantics}
+use Rattle.session_log.specs.Semantics.{with_line_feed, LineSemantics}
 use Rattle.session_log.specs.declared.line.Line.{Line}
 use Rattle.session_log.specs.declared.line.Line.TheVariants.{Input, Sent, Comment, Count}
 use Rattle.session_show.specs.declared.detail.Detail.{Detail}
@@ -83,8 +83,8 @@ rule_for_format format = rule_for_detail (detail_of format)
 -- ---- the lines
 
 -- The semantics of a log that is only read: each log line is accepted, and the text for a line is the line itself.
-abbrev pub read_only_world : LineSemantics (Unit {0})
-read_only_world = record {
+abbrev pub read_only_semantics : LineSemantics (Unit {0})
+read_only_semantics = record {
   stops = λ s l. None;
   moves = λ s l. s;
   sound = λ s l. Unit {0};
@@ -131,7 +131,7 @@ IsTextUpTo shows lines text _ = IsShownText shows lines text
 abbrev pub Shows : LineTextRule → (Option (List ℕ) × Option (List ℕ))
     → (Option (List ℕ) × Option (List ℕ)) → Ending → Type 0
 Shows shows left taken ending = ReadsAndWrites left.0 left.1 taken.0 taken.1
-    (λ bytes text. (lines : List ℕ) × Plays read_only_world tt tt bytes lines ending × IsTextUpTo shows lines text ending)
+    (λ bytes text. (lines : List ℕ) × Plays read_only_semantics tt tt bytes lines ending × IsTextUpTo shows lines text ending)
 
 -- ---- one line
 
@@ -146,7 +146,7 @@ failures_of failures = failures
 -- Line `n` was shown; or the line is invalid, and nothing was written; or writing its text failed. A pair is the number
 -- of the target's failures before and after.
 abbrev pub ShowsLine : ℕ → List ℕ → (ℕ × ℕ) → Ending → Type 0
-ShowsLine n line failures ending = PlaysLine read_only_world unknown_bytes failures_of n tt tt line failures ending
+ShowsLine n line failures ending = PlaysLine read_only_semantics unknown_bytes failures_of n tt tt line failures ending
 
 -- The text for line `n` was written; or the line is invalid, and nothing was written; or writing failed.
 abbrev pub WritesLine : LineTextRule → ℕ → List ℕ → (Option (List ℕ) × Option (List ℕ)) → Ending → Type 0

@@ -11,14 +11,14 @@ use session_log::{Failed, Target, put_all};
 /// at most 7609 bytes.
 const MAX_CHUNKS: usize = 1 << 32;
 
-/// A value that can be written as text.
-pub trait Written {
+/// Values that can be written as text.
+pub trait WriteText {
     /// Writes the text. Each call writes the same text.
     fn write(&self, buf: &mut TextBuf);
 }
 
 /// Writes a line number, a space and a text. After a failure, the target has only a part of them.
-pub fn put_with_line_number<T: Target, W: Written>(
+pub fn put_with_line_number<T: Target, W: WriteText>(
     writer: &mut T,
     buf: &mut TextBuf,
     number: u64,
@@ -36,7 +36,7 @@ pub fn put_with_line_number<T: Target, W: Written>(
 }
 
 /// Writes a text. After a failure, the target has only a part of it.
-pub fn put_chunks<T: Target, W: Written>(
+pub fn put_chunks<T: Target, W: WriteText>(
     writer: &mut T,
     buf: &mut TextBuf,
     written: &W,

@@ -1,7 +1,7 @@
 //! Differences between a log's packets and those that a session sends.
 ghost use Rattle.std.specs.Prelude.{◌<◌, ◌-◌, ◌^◌};
 
-use crate::chunked::{Written, put_chunks};
+use crate::chunked::{WriteText, put_chunks};
 use crate::detail::Detail;
 use crate::entry::write_message;
 use crate::packet_line::write_packet;
@@ -78,7 +78,7 @@ struct ComparedPacket<'a> {
     line: u64,
 }
 
-impl Written for ComparedPacket<'_> {
+impl WriteText for ComparedPacket<'_> {
     fn write(&self, buf: &mut TextBuf) {
         buf.text("< ");
         write_packet(buf, self.packet, false);
@@ -290,7 +290,7 @@ impl Comparison {
 }
 
 /// Writes a text, unless the target's count of failures is at its maximum.
-fn put_counted<T: Target, W: Written>(
+fn put_counted<T: Target, W: WriteText>(
     writer: &mut T,
     buf: &mut TextBuf,
     written: &W,

@@ -1,6 +1,6 @@
 //! The text for a line of a log.
 
-use crate::chunked::Written;
+use crate::chunked::WriteText;
 use crate::escape::write_escaped;
 use crate::item::write_item_or_error;
 use crate::member_names::MapKind;
@@ -12,7 +12,7 @@ use authn_core::Presence;
 use ctap_cbor::check;
 use session_log::Line;
 use session_walk::status::CREDENTIAL_EXCLUDED;
-use session_walk::{CborMessage, Ended, Entry, Excluded, Transaction};
+use session_walk::{CborMessage, Entry, ExcludedCredential, Transaction, TransactionEnd};
 use token_session::Input;
 
 /// Formats for writing a CBOR message.
@@ -243,7 +243,7 @@ pub fn input_formats(input: &Input) -> &'static InputFormats {
 
 /// Writes the line for a transaction that ended without a response or an ERROR to its complete message. The line begins
 /// with the number of the line at which the transaction ended, if any.
-pub fn write_ended(buf: &mut TextBuf, number: Option<u64>, ended: &Ended) {
+pub fn write_ended(buf: &mut TextBuf, number: Option<u64>, ended: &TransactionEnd) {
     let line = Some(ended.exchange.transaction.line);
     let (formats, one, two) = end_formats(ended);
     match ended.exchange.progress.missing() {
@@ -252,7 +252,7 @@ pub fn write_ended(buf: &mut TextBuf, number: Option<u64>, ended: &Ended) {
     }
 }
 
-impl Written for Transaction {
+impl WriteText for Transaction {
     /// Writes the transaction without a line feed, as in `authenticatorMakeCredential 01 on channel 00000001, from line
     /// 12`.
     fn write(&self, buf: &mut TextBuf) {
@@ -269,7 +269,7 @@ impl Written for Transaction {
     }
 }
 
-impl Written for Excluded {
+impl WriteText for ExcludedCredential {
     /// Writes a line.
     fn write(&self, buf: &mut TextBuf) {
         let numbers = [Some(self.place), Some(self.line)];

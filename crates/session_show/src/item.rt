@@ -2,7 +2,7 @@
 ghost use Rattle.std.specs.Prelude.{◌<◌, ◌≤◌, ◌-◌, ◌^◌};
 ghost use Rattle.session_show.specs.Shown.{Writes};
 
-use crate::chunked::{Written, put_chunks};
+use crate::chunked::{WriteText, put_chunks};
 use crate::detail::Detail;
 use crate::escape::{needs_no_escape, write_char};
 use crate::text_buf::TextBuf;
@@ -40,7 +40,7 @@ pub static JSON: &Notation = &Notation {
 #[derive(Clone, Copy)]
 pub struct Diagnostic<'a>(pub &'a [u8]);
 
-impl Written for Diagnostic<'_> {
+impl WriteText for Diagnostic<'_> {
     fn write(&self, buf: &mut TextBuf) {
         write_item_or_error(buf, self.0, &check(self.0).result);
     }

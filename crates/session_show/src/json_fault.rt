@@ -2,7 +2,7 @@
 ghost use Rattle.std.specs.Prelude.{◌<◌, ◌-◌, ◌^◌};
 ghost use Rattle.session_show.specs.Shown.{Writes};
 
-use crate::chunked::{Written, put_chunks};
+use crate::chunked::{WriteText, put_chunks};
 use crate::detail::Detail;
 use crate::text_buf::TextBuf;
 use session_log::{Failed, LogFault, Target};
@@ -11,7 +11,7 @@ use session_log::{Failed, LogFault, Target};
 #[derive(Clone, Copy)]
 struct FaultObject<'a>(&'a LogFault);
 
-impl Written for FaultObject<'_> {
+impl WriteText for FaultObject<'_> {
     fn write(&self, buf: &mut TextBuf) {
         let (format, line) = match *self.0 {
             LogFault::BadLine(line) => (BAD_LINE, Some(line)),

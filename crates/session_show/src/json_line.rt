@@ -1,6 +1,6 @@
 //! The JSON objects for a line of a log. Members that were renamed in format 2 occur under both names in this version.
 
-use crate::chunked::Written;
+use crate::chunked::WriteText;
 use crate::entry::{input_formats, map_kind, message_formats};
 use crate::item::{Diagnostic, JSON, write_value};
 use crate::json::{write_hex, write_string};
@@ -10,7 +10,7 @@ use ctap_cbor::{Cursor, check};
 use hid_packet::command::{ERROR, KEEPALIVE};
 use hid_packet::{Packet, View};
 use session_log::Line;
-use session_walk::{CborMessage, Ended, LineEntry, Names, RpId, channel_of};
+use session_walk::{CborMessage, LineEntry, Names, RpId, TransactionEnd, channel_of};
 use token_session::Input;
 
 /// Writes the objects for a line. A comment that isn't UTF-8 is written in hexadecimal digits.
@@ -125,7 +125,7 @@ fn write_item(buf: &mut TextBuf, names: Names, item: &[u8]) {
 }
 
 /// Writes the object of a transaction that ended, or that is open at the end of the log.
-pub fn write_transaction(buf: &mut TextBuf, number: u64, ended: &Ended) {
+pub fn write_transaction(buf: &mut TextBuf, number: u64, ended: &TransactionEnd) {
     let exchange = &ended.exchange;
     let transaction = &exchange.transaction;
     buf.format(

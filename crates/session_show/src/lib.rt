@@ -32,7 +32,7 @@ mod transaction_end;
 mod transcript;
 
 pub use cause::write_cause;
-pub use chunked::{Written, put_chunks};
+pub use chunked::{WriteText, put_chunks};
 pub use detail::Detail;
 pub use difference::{Comparison, Difference};
 pub use escape::{is_invisible, write_escaped};

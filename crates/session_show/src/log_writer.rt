@@ -3,10 +3,10 @@ ghost use Rattle.std.specs.Prelude.{◌≡◌, ◌<◌, ◌-◌, ◌^◌, IfErr,
 ghost use Rattle.session_log.specs.Replay.{ending_of, read_fails, write_fails};
 ghost use Rattle.session_log.specs.Replay.{IsLineFault, ReadsTo};
 ghost use Rattle.session_log.specs.Lines.{Counts as CountsFailures, IsAtEndOfInput};
-ghost use Rattle.session_show.specs.Shown.{Shows, ShowsLine, WritesEnd, WritesLine, read_only_world, rule_for_format, detail_of};
+ghost use Rattle.session_show.specs.Shown.{Shows, ShowsLine, WritesEnd, WritesLine, read_only_semantics, rule_for_format, detail_of};
 ghost use Rattle.session_show.specs.Shown.{Writes};
 
-use crate::chunked::{Written, put_chunks, put_with_line_number};
+use crate::chunked::{WriteText, put_chunks, put_with_line_number};
 use crate::counts::{Counts, JSON_FORMATS, TEXT_FORMATS};
 use crate::detail::Detail;
 use crate::entry::{write_ended, write_entry, write_page};
@@ -15,7 +15,7 @@ use crate::summary_row::{TABLE_HEADER, write_row};
 use crate::text_buf::TextBuf;
 use crate::transcript::PlainTranscript;
 use session_log::{Failed, Line, LogFault, Source, Target, Window, next_line, parse_line};
-use session_walk::{Ended, Entry, MAX_OPEN_TRANSACTIONS, TransactionTracker};
+use session_walk::{Entry, MAX_OPEN_TRANSACTIONS, TransactionEnd, TransactionTracker};
 
 /// An output format.
 #[derive(Clone, Copy)]
@@ -229,7 +229,7 @@ pub fn write_log<S: Source, T: Target>(
     ensures shown { Shows (rule_for_format log_writer.old.format) (S.left reader.old, S.left reader.new)
         (T.taken writer.old, T.taken writer.new) (ending_of result) }
     // For an invalid line, at most 256 bytes were read after the lines before it.
-    ensures reach { ReadsTo read_only_world tt (S.left reader.old) (S.left reader.new)
+    ensures reach { ReadsTo read_only_semantics tt (S.left reader.old) (S.left reader.new)
         (IsAtEndOfInput S.left S.ended reader.new) (ending_of result) }
     // On success, the reader was read to its end.
     ensures end { OnOk result (IsAtEndOfInput S.left S.ended reader.new) }
@@ -257,7 +257,13 @@ pub fn write_log<S: Source, T: Target>(
 
 /// Writes a transaction that ended, with the number of the line at which it ended. In a table, the header comes before
 /// the first transaction. In a text, the line number precedes each transaction but the first.
-fn write_end(buf: &mut TextBuf, format: OutputFormat, number: u64, ended: &Ended, has_head: bool) {
+fn write_end(
+    buf: &mut TextBuf,
+    format: OutputFormat,
+    number: u64,
+    ended: &TransactionEnd,
+    has_head: bool,
+) {
     match format {
         OutputFormat::Text(_) | OutputFormat::Page => {
             let number = if buf.place() == 0 { None } else { Some(number) };
@@ -288,7 +294,7 @@ struct LogEnd<'a> {
     last: u64,
 }
 
-impl Written for LogEnd<'_> {
+impl WriteText for LogEnd<'_> {
     fn write(&self, buf: &mut TextBuf) {
         if let Some(deferred) = &self.walk.deferred()
             && matches!(self.format, OutputFormat::Objects)
@@ -297,7 +303,7 @@ impl Written for LogEnd<'_> {
         }
         let mut line = 0;
         for _ in 0..MAX_OPEN_TRANSACTIONS {
-            let Some(open) = self.walk.channels.first_open_after(line) else {
+            let Some(open) = self.walk.channels.first_open_transaction_after(line) else {
                 break;
             };
             write_end(
@@ -327,7 +333,7 @@ struct LineOutput<'a> {
     has_head: bool,
 }
 
-impl Written for LineOutput<'_> {
+impl WriteText for LineOutput<'_> {
     fn write(&self, buf: &mut TextBuf) {
         let entry = &self.entry;
         if entry.own.number == 1

@@ -1,6 +1,6 @@
 //! The lines for members of maps, and for the bytes decoded from them.
 
-use crate::chunked::Written;
+use crate::chunked::WriteText;
 use crate::item::{DIAGNOSTIC, Diagnostic, write_scalar, write_value};
 use crate::member_names::MapKind;
 use crate::status_names::write_name;

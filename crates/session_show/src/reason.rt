@@ -1,7 +1,7 @@
 //! Explains why the packets of the key differ from those of the log, from the lines before the difference.
 
 use crate::cause::write_cause;
-use crate::chunked::Written;
+use crate::chunked::WriteText;
 use crate::difference::Difference;
 use crate::escape::write_escaped;
 use crate::text_buf::TextBuf;
@@ -22,7 +22,7 @@ pub struct Reason<'a> {
     pub transaction: Option<Transaction>,
 }
 
-impl Written for Reason<'_> {
+impl WriteText for Reason<'_> {
     /// Writes a line with the reason why the key sends its packet, or none, if the reason is known.
     fn write(&self, buf: &mut TextBuf) {
         let Some(sent) = &self.difference.sent else {

@@ -3,7 +3,7 @@ ghost use Rattle.std.specs.Prelude.{◌<◌, ◌-◌, ◌^◌, OnOk};
 ghost use Rattle.session_log.specs.Replay.{ending_of, read_fails, write_fails};
 ghost use Rattle.session_log.specs.Replay.{ReadsTo};
 ghost use Rattle.session_log.specs.Lines.{Counts, IsAtEndOfInput};
-ghost use Rattle.session_show.specs.Shown.{IsLineText, Shows, read_only_world};
+ghost use Rattle.session_show.specs.Shown.{IsLineText, Shows, read_only_semantics};
 ghost use Rattle.session_show.specs.declared.detail.Detail.TheVariants.{Explained as explained, Fixed as fixed};
 
 use crate::detail::Detail;
@@ -28,7 +28,7 @@ pub fn show<S: Source, T: Target>(reader: &mut S, writer: &mut T) -> Result<(), 
     ensures shown { Shows (IsLineText fixed) (S.left reader.old, S.left reader.new) (T.taken writer.old, T.taken writer.new)
         (ending_of result) }
     // For an invalid line, at most 256 bytes were read after the lines before it.
-    ensures reach { ReadsTo read_only_world tt (S.left reader.old) (S.left reader.new)
+    ensures reach { ReadsTo read_only_semantics tt (S.left reader.old) (S.left reader.new)
         (IsAtEndOfInput S.left S.ended reader.new) (ending_of result) }
     // On success, the reader was read to its end.
     ensures end { OnOk result (IsAtEndOfInput S.left S.ended reader.new) }
@@ -50,7 +50,7 @@ pub fn explain<S: Source, T: Target>(reader: &mut S, writer: &mut T) -> Result<(
     requires write { T.failed writer.old < 2 ^ 64 - 1 }
     ensures shown { Shows (IsLineText explained) (S.left reader.old, S.left reader.new) (T.taken writer.old, T.taken writer.new)
         (ending_of result) }
-    ensures reach { ReadsTo read_only_world tt (S.left reader.old) (S.left reader.new)
+    ensures reach { ReadsTo read_only_semantics tt (S.left reader.old) (S.left reader.new)
         (IsAtEndOfInput S.left S.ended reader.new) (ending_of result) }
     ensures end { OnOk result (IsAtEndOfInput S.left S.ended reader.new) }
     ensures reads { Counts S.failed (reader.old, reader.new) (read_fails (ending_of result)) }
@@ -75,7 +75,7 @@ pub fn write_transactions<S: Source, T: Target>(
     requires write { T.failed writer.old < 2 ^ 64 - 1 }
     ensures shown { Shows (IsLineText fixed) (S.left reader.old, S.left reader.new) (T.taken writer.old, T.taken writer.new)
         (ending_of result) }
-    ensures reach { ReadsTo read_only_world tt (S.left reader.old) (S.left reader.new)
+    ensures reach { ReadsTo read_only_semantics tt (S.left reader.old) (S.left reader.new)
         (IsAtEndOfInput S.left S.ended reader.new) (ending_of result) }
     ensures end { OnOk result (IsAtEndOfInput S.left S.ended reader.new) }
     ensures reads { Counts S.failed (reader.old, reader.new) (read_fails (ending_of result)) }

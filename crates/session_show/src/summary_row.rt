@@ -3,7 +3,7 @@
 use crate::escape::write_escaped;
 use crate::text_buf::TextBuf;
 use crate::transaction_end::end_formats;
-use session_walk::Ended;
+use session_walk::TransactionEnd;
 
 /// The header of the table.
 pub static TABLE_HEADER: &str =
@@ -21,7 +21,7 @@ const KEEPALIVES_END: usize = 84;
 
 /// Writes the row of a transaction: line, channel, command, status, milliseconds until the user's reply, number of
 /// KEEPALIVEs, and RP ID.
-pub fn write_row(buf: &mut TextBuf, ended: &Ended) {
+pub fn write_row(buf: &mut TextBuf, ended: &TransactionEnd) {
     let exchange = &ended.exchange;
     buf.column(exchange.transaction.line, 6);
     buf.format(b"  %w  ", &[Some(u64::from(exchange.transaction.channel))]);

@@ -1,6 +1,6 @@
 //! Formats for writing the end of a transaction.
 
-use session_walk::{End, Ended};
+use session_walk::{End, TransactionEnd};
 
 /// The formats for one kind of end of a transaction.
 pub struct EndFormats {
@@ -99,7 +99,7 @@ static UNFINISHED: EndFormats = EndFormats {
 };
 
 /// Returns the formats for the end of a transaction, and the numbers to insert.
-pub fn end_formats(ended: &Ended) -> (&'static EndFormats, Option<u64>, Option<u64>) {
+pub fn end_formats(ended: &TransactionEnd) -> (&'static EndFormats, Option<u64>, Option<u64>) {
     match &ended.end {
         End::Status(status) => {
             let status = Some(u64::from(*status));

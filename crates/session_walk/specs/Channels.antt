@@ -11,41 +11,41 @@ use Rattle.session_walk.specs.Walks.{channel_on, index_on}
 use Rattle.session_walk.specs.Whole.{is_idle, may_be_processing, open_init}
 use Rattle.session_walk.specs.declared.answer.ResponseStart.{ResponseStart}
 use Rattle.session_walk.specs.declared.channel.{Channel.Channel}
-use Rattle.session_walk.specs.declared.transaction.{Ended.Ended, MessageProgress.MessageProgress, OpenTransaction.OpenTransaction, Transaction.Transaction}
+use Rattle.session_walk.specs.declared.transaction.{TransactionEnd.TransactionEnd, MessageProgress.MessageProgress, OpenTransaction.OpenTransaction, Transaction.Transaction}
 use Rattle.session_walk.specs.declared.transaction.End.TheVariants.{Cut, Dropped, Forgotten, Open}
 
 -- A transaction that is open at the end of the log.
-abbrev pub open_end : OpenTransaction → Ended
+abbrev pub open_end : OpenTransaction → TransactionEnd
 open_end m = record { exchange = m; end = Open }
 
 -- The transaction of the message, or none without a message.
-abbrev pub open_message : Option OpenTransaction → List Ended
+abbrev pub open_message : Option OpenTransaction → List TransactionEnd
 open_message None = []
 open_message (Some m) = open_end m ∷ []
 
 -- The transaction of a response that is incomplete, if known.
-abbrev pub cut_response : MessageProgress → Option OpenTransaction → List Ended
+abbrev pub cut_response : MessageProgress → Option OpenTransaction → List TransactionEnd
 cut_response progress None = []
 cut_response progress (Some m) = record { exchange = m; end = Cut progress } ∷ []
 
 -- The transaction whose response the device is sending on a channel, if any.
-abbrev pub responding_transaction : Channel → List Ended
+abbrev pub responding_transaction : Channel → List TransactionEnd
 responding_transaction c =
     let progress = c.last_response.progress in
     if is_whole progress.length progress.continuations then [] else cut_response progress c.last_response.exchange
 
 -- The open transactions of a channel. Each one has the end that applies if no packet follows.
-abbrev pub open_transactions : Channel → List Ended
+abbrev pub open_transactions : Channel → List TransactionEnd
 open_transactions c =
     responding_transaction c ++ (map (λ g. open_end (open_init c.number g)) c.pending_inits.items
     ++ (open_message c.current ++ open_message c.contender))
 
 -- The ended transactions, together with transactions that are no longer tracked.
-abbrev pub with_forgotten : List Ended → List Ended → List Ended
+abbrev pub with_forgotten : List TransactionEnd → List TransactionEnd → List TransactionEnd
 with_forgotten ended tracked = fold (λ ends m. with_end ends m.exchange Forgotten) ended tracked
 
 -- The ended transactions, together with transactions that the INIT on a line drops.
-abbrev pub with_dropped : ℕ → List Ended → List Ended → List Ended
+abbrev pub with_dropped : ℕ → List TransactionEnd → List TransactionEnd → List TransactionEnd
 with_dropped line ended tracked = fold (λ ends m. with_end ends m.exchange (Dropped line)) ended tracked
 
 -- A channel without transactions, whose last packet is on this line.
@@ -111,7 +111,7 @@ with_allocated number line None channels = channels
 with_allocated number line (Some place) channels = slice_set channels place (fresh_channel number line)
 
 -- The open transactions of the channel, or none without a channel.
-abbrev pub open_on : Option Channel → List Ended
+abbrev pub open_on : Option Channel → List TransactionEnd
 open_on None = []
 open_on (Some c) = open_transactions c
 
@@ -122,7 +122,7 @@ after_allocation number line channels =
 
 -- The ended transactions, followed by those that the response to an INIT ends: the transactions open on the channel
 -- that it allocates.
-abbrev pub ends_by_allocation : (number line : ℕ) → List Channel → List Ended → List Ended
+abbrev pub ends_by_allocation : (number line : ℕ) → List Channel → List TransactionEnd → List TransactionEnd
 ends_by_allocation number line channels ended =
     if number == BROADCAST then ended else with_dropped line ended (open_on (channel_on number channels))
 
@@ -143,8 +143,8 @@ allocating_line answer None = None
 allocating_line answer (Some transaction) =
     if (answer.command == INIT) && (transaction.channel == BROADCAST) then Some transaction.line else None
 
--- Whether a device continues no earlier assertion after the packet: the packet is a successful response to
--- authenticatorGetAssertion or to an unknown request.
+-- Whether authenticatorGetNextAssertion no longer refers to an earlier assertion after the packet: the packet is a
+-- successful response to authenticatorGetAssertion or to an unknown request.
 abbrev pub replaces_assertion : ResponseStart → Option Transaction → Bool
 replaces_assertion answer transaction = is_success answer && (is_none transaction || is_assertion transaction)
 
@@ -154,16 +154,16 @@ may_name_prior transaction None = false
 may_name_prior transaction (Some last) = (last.transaction.line == transaction.line) && last.named.may_name_prior
 
 -- The earlier of two transactions, of those that began after a line. The first of the two, if any, began after it.
-abbrev pub earlier_of : ℕ → Option Ended → Ended → Option Ended
+abbrev pub earlier_of : ℕ → Option TransactionEnd → TransactionEnd → Option TransactionEnd
 earlier_of line None m = if nat_lt line m.exchange.transaction.line then Some m else None
 earlier_of line (Some first) m =
     if nat_lt line m.exchange.transaction.line && nat_lt m.exchange.transaction.line first.exchange.transaction.line
     then Some m else Some first
 
 -- The transaction that began first after a line, among those in the list and `other`.
-abbrev pub first_after : ℕ → Option Ended → List Ended → Option Ended
+abbrev pub first_after : ℕ → Option TransactionEnd → List TransactionEnd → Option TransactionEnd
 first_after line other ended = fold (earlier_of line) other ended
 
 -- The open transaction, of all channels, that began first after a line.
-abbrev pub first_open_after : ℕ → List Channel → Option Ended
-first_open_after line channels = fold (λ first c. first_after line first (open_transactions c)) None channels
+abbrev pub first_open_transaction_after : ℕ → List Channel → Option TransactionEnd
+first_open_transaction_after line channels = fold (λ first c. first_after line first (open_transactions c)) None channels

@@ -10,8 +10,8 @@ use Rattle.session_walk.specs.declared.awaited.AwaitedReply.{AwaitedReply}
 use Rattle.session_walk.specs.declared.awaited.AwaitedReply.TheVariants.{Key, Presence, Signature}
 use Rattle.session_walk.specs.declared.answer.{ResponseStart.ResponseStart}
 use Rattle.session_walk.specs.declared.channel.{Channel.Channel, ResponseMessage.ResponseMessage}
-use Rattle.session_walk.specs.declared.ambiguous.Ambiguous.{Ambiguous}
-use Rattle.session_walk.specs.declared.transaction.{Ended.Ended, OpenTransaction.OpenTransaction, Transaction.Transaction}
+use Rattle.session_walk.specs.declared.ambiguous.AmbiguousPacket.{AmbiguousPacket}
+use Rattle.session_walk.specs.declared.transaction.{TransactionEnd.TransactionEnd, OpenTransaction.OpenTransaction, Transaction.Transaction}
 use Rattle.session_walk.specs.declared.transaction.End.{End}
 use Rattle.session_walk.specs.declared.transaction.End.TheVariants.{Dropped, Refused, Replaced, Unknown}
 
@@ -34,51 +34,51 @@ abbrev pub both_unidentified : Channel → Channel
 both_unidentified c = let s = contender_accepted false c in record (current_unidentified s.current (current_ended s)) { is_ambiguous = false }
 
 -- The ended transactions, followed by those of the channel's current message and its contender, whose ends are unknown.
-abbrev pub with_unknown_ends : Channel → List Ended → List Ended
+abbrev pub with_unknown_ends : Channel → List TransactionEnd → List TransactionEnd
 with_unknown_ends c ended = with_end_of (ends_by_contender false c ended) (contender_accepted false c).current Unknown
 
 -- Whether the ambiguous continuation packet, if any, belongs to this message.
-abbrev pub is_ambiguous_part_of : Option Ambiguous → OpenTransaction → Bool
+abbrev pub is_ambiguous_part_of : Option AmbiguousPacket → OpenTransaction → Bool
 is_ambiguous_part_of None current = false
 is_ambiguous_part_of (Some d) current = current.transaction.line == d.transaction.line
 
 -- Whether the ambiguous continuation packet has the sequence number that its message expects.
-abbrev pub has_expected_sequence : Option Ambiguous → Bool
+abbrev pub has_expected_sequence : Option AmbiguousPacket → Bool
 has_expected_sequence None = false
 has_expected_sequence (Some d) = d.is_next
 
 -- The message without the ambiguous continuation packet. If ERROR 05 shows that the packet arrived too late, the
 -- message timed out without it (CTAP 2.1, section 11.2.5.2).
-abbrev pub without_late : Option Ambiguous → OpenTransaction → OpenTransaction
+abbrev pub without_late : Option AmbiguousPacket → OpenTransaction → OpenTransaction
 without_late ambiguous current =
     if is_ambiguous_part_of ambiguous current && has_expected_sequence ambiguous
     then record current { progress = record current.progress { continuations = current.progress.continuations - 1 } }
     else current
 
 -- The channel after its current message, if any, timed out.
-abbrev pub timed_out_by : Option Ambiguous → Option OpenTransaction → Channel → Channel
+abbrev pub timed_out_by : Option AmbiguousPacket → Option OpenTransaction → Channel → Channel
 timed_out_by ambiguous None c = c
 timed_out_by ambiguous (Some current) c =
     let h = without_late ambiguous current in
     if is_complete_message h then record c { current = Some h } else record c { current = c.contender; contender = None }
 
 -- The channel after its current message, if any, timed out.
-abbrev pub timed_out : Option Ambiguous → Channel → Channel
+abbrev pub timed_out : Option AmbiguousPacket → Channel → Channel
 timed_out ambiguous c = timed_out_by ambiguous c.current c
 
 -- The ended transactions, followed by the one that the time-out ends.
-abbrev pub ends_by_timeout : Option Ambiguous → Option OpenTransaction → List Ended → List Ended
+abbrev pub ends_by_timeout : Option AmbiguousPacket → Option OpenTransaction → List TransactionEnd → List TransactionEnd
 ends_by_timeout ambiguous None ended = ended
 ends_by_timeout ambiguous (Some current) ended =
     let h = without_late ambiguous current in if is_complete_message h then ended else with_end ended h (Refused 5)
 
 -- The transaction to which the time-out's ERROR belongs.
-abbrev pub timeout_transaction : Option Ambiguous → Option OpenTransaction → Option Transaction
+abbrev pub timeout_transaction : Option AmbiguousPacket → Option OpenTransaction → Option Transaction
 timeout_transaction ambiguous None = None
 timeout_transaction ambiguous (Some current) = if is_complete_message (without_late ambiguous current) then None else Some current.transaction
 
 -- Whether there are an ambiguous continuation packet and a message, and the packet belongs to the message.
-abbrev pub is_ambiguous_part_of_any : Option Ambiguous → Option OpenTransaction → Bool
+abbrev pub is_ambiguous_part_of_any : Option AmbiguousPacket → Option OpenTransaction → Bool
 is_ambiguous_part_of_any ambiguous None = false
 is_ambiguous_part_of_any ambiguous (Some current) = is_ambiguous_part_of ambiguous current
 

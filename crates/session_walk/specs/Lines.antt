@@ -8,7 +8,7 @@ use Rattle.session_log.specs.declared.line.Line.{Line}
 use Rattle.session_log.specs.declared.line.Line.TheVariants.{Input, Sent, Comment, Count}
 use Rattle.session_walk.specs.Messages.{KeptMessages, AddsData, CanBeKept, KeepsOnly, new_message, continued, kept_at}
 use Rattle.session_walk.specs.Messages.{complete_bytes_at}
-use Rattle.session_walk.specs.declared.ambiguous.Resolved.{Resolved}
+use Rattle.session_walk.specs.declared.ambiguous.ResolvedPacket.{ResolvedPacket}
 use Rattle.session_walk.specs.declared.ambiguous.CompletedMessage.{CompletedMessage}
 use Rattle.session_walk.specs.declared.entry.CborMessage.{CborMessage}
 use Rattle.session_walk.specs.declared.entry.LineEntry.{LineEntry}
@@ -91,7 +91,7 @@ abbrev pub completed_bytes : KeptMessages → Option CompletedMessage → Option
 completed_bytes kept = option_map (λ completed. complete_bytes_at kept completed.line)
 
 -- The line with an ambiguous packet, which is shown when its transaction is known.
-pub record ShowsResolved (kept : KeptMessages) (resolved : Option Resolved) (deferred : Option LineEntry) : Type 0 where
+pub record ShowsResolved (kept : KeptMessages) (resolved : Option ResolvedPacket) (deferred : Option LineEntry) : Type 0 where
   pub line : option_map (λ own. own.number) deferred ≡ option_map (λ resolved. resolved.line) resolved
   pub parsed : option_map (λ own. own.parsed.now) deferred ≡ option_map (λ resolved. resolved.parsed) resolved
   pub transaction : option_map (λ own. own.transaction) deferred ≡ option_map (λ resolved. resolved.transaction) resolved

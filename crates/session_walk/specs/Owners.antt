@@ -7,16 +7,16 @@ use Rattle.hid_packet.specs.Packet.{PING, INIT}
 use Rattle.hid_packet.specs.Packet.{CONT_PACKET_DATA}
 use Rattle.session_walk.specs.Messages.{bytes_received, is_whole}
 use Rattle.session_walk.specs.declared.channel.{Channel.Channel, ContinuationMatch.ContinuationMatch, PendingInit.PendingInit}
-use Rattle.session_walk.specs.declared.transaction.{Ended.Ended, OpenTransaction.OpenTransaction, Transaction.Transaction}
+use Rattle.session_walk.specs.declared.transaction.{TransactionEnd.TransactionEnd, OpenTransaction.OpenTransaction, Transaction.Transaction}
 use Rattle.session_walk.specs.declared.transaction.End.{End}
 use Rattle.session_walk.specs.declared.transaction.End.TheVariants.{Dropped, Unknown, Replaced}
 
 -- The ended transactions, followed by another one. At most eight are kept.
-abbrev pub with_end : List Ended → OpenTransaction → End → List Ended
+abbrev pub with_end : List TransactionEnd → OpenTransaction → End → List TransactionEnd
 with_end ended exchange end = if nat_lt (length ended) 8 then ended ++ record { exchange = exchange; end = end } ∷ [] else ended
 
 -- The ended transactions, followed by that of the current message, if any.
-abbrev pub with_end_of : List Ended → Option OpenTransaction → End → List Ended
+abbrev pub with_end_of : List TransactionEnd → Option OpenTransaction → End → List TransactionEnd
 with_end_of ended None end = ended
 with_end_of ended (Some current) end = with_end ended current end
 
@@ -72,13 +72,13 @@ abbrev pub contender_accepted : Bool → Channel → Channel
 contender_accepted is_shown c = contender_accepted_by is_shown c.contender c
 
 -- The ended transactions, followed by that of the current message if the contender takes its place.
-abbrev pub ends_by_contender_of : Bool → (contender current : Option OpenTransaction) → List Ended → List Ended
+abbrev pub ends_by_contender_of : Bool → (contender current : Option OpenTransaction) → List TransactionEnd → List TransactionEnd
 ends_by_contender_of is_shown None current ended = ended
 ends_by_contender_of is_shown (Some contender) None ended = ended
 ends_by_contender_of is_shown (Some contender) (Some current) ended = with_end ended current (end_of_current is_shown contender current)
 
 -- The ended transactions, with that of the current message if the contender takes its place.
-abbrev pub ends_by_contender : Bool → Channel → List Ended → List Ended
+abbrev pub ends_by_contender : Bool → Channel → List TransactionEnd → List TransactionEnd
 ends_by_contender is_shown c ended = ends_by_contender_of is_shown c.contender c.current ended
 
 -- The channel without its current message. The contender becomes the current message.

@@ -18,8 +18,8 @@ use Rattle.session_log.specs.declared.line.Line.TheVariants.{Input as InputLine,
 use Rattle.session_walk.specs.declared.channel.Channel.{Channel}
 use Rattle.session_walk.specs.declared.channel.ContinuationMatch.{ContinuationMatch}
 use Rattle.session_walk.specs.declared.channel.ResponseMessage.{ResponseMessage}
-use Rattle.session_walk.specs.declared.ambiguous.Ambiguous.{Ambiguous}
-use Rattle.session_walk.specs.declared.transaction.Ended.{Ended}
+use Rattle.session_walk.specs.declared.ambiguous.AmbiguousPacket.{AmbiguousPacket}
+use Rattle.session_walk.specs.declared.transaction.TransactionEnd.{TransactionEnd}
 use Rattle.session_walk.specs.declared.transaction.OpenTransaction.{OpenTransaction}
 use Rattle.session_walk.specs.declared.transaction.End.{End}
 use Rattle.session_walk.specs.declared.transaction.End.TheVariants.{Status, Answered}
@@ -111,7 +111,7 @@ MIN_TIMEOUT_MS = 100
 
 -- The ambiguous packet after a continuation packet: this packet if it may have arrived too late, or else the previous
 -- ambiguous packet.
-abbrev pub ambiguous_after : ℕ → Line → Option ContinuationMatch → Option Ambiguous → Option Ambiguous
+abbrev pub ambiguous_after : ℕ → Line → Option ContinuationMatch → Option AmbiguousPacket → Option AmbiguousPacket
 ambiguous_after number parsed None before = before
 ambiguous_after number parsed (Some c) before =
     if nat_le MIN_TIMEOUT_MS c.gap
@@ -136,7 +136,7 @@ continued_message_line None = 0
 continued_message_line (Some c) = if c.is_next then c.transaction.line else 0
 
 -- The transaction of an ambiguous packet, or None if the packet arrived too late.
-abbrev pub resolved_transaction : Bool → Ambiguous → Option Transaction
+abbrev pub resolved_transaction : Bool → AmbiguousPacket → Option Transaction
 resolved_transaction true d = None
 resolved_transaction false d = Some d.transaction
 
@@ -146,12 +146,12 @@ complete_response_end (Some status) = Status status
 complete_response_end None = Answered
 
 -- The ended transactions, followed by the one that a complete response ends.
-abbrev pub answered_by : Option OpenTransaction → Option ℕ → List Ended → List Ended
+abbrev pub answered_by : Option OpenTransaction → Option ℕ → List TransactionEnd → List TransactionEnd
 answered_by None status ended = ended
 answered_by (Some exchange) status ended = with_end ended exchange (complete_response_end status)
 
 -- The ended transactions, followed by the one that a complete response ends.
-abbrev pub answered : ResponseMessage → ℕ → List Ended → List Ended
+abbrev pub answered : ResponseMessage → ℕ → List TransactionEnd → List TransactionEnd
 answered last_response message_start ended =
     if (last_response.line == message_start) && is_whole last_response.progress.length last_response.progress.continuations
     then answered_by last_response.exchange last_response.status ended else ended
@@ -193,8 +193,8 @@ abbrev pub current_time_at : ℕ → TransactionTracker → Option (Option ℕ)
 current_time_at place walk = option_map (λ c. packet_time_of c.current) (slice_get walk.channels.list place)
 
 -- Whether the tracked channel has this ID.
-abbrev pub is_on : ℕ → Channel → Bool
-is_on number c = nat_lt 0 c.used && (c.number == number)
+abbrev pub has_channel_id : ℕ → Channel → Bool
+has_channel_id number c = nat_lt 0 c.used && (c.number == number)
 
 -- The index of the first of the six tracked channels that passes a test.
 abbrev pub tracked_index : Option ℕ → Option ℕ
@@ -203,7 +203,7 @@ tracked_index (Some place) = if nat_lt place 6 then Some place else None
 
 -- The index of the channel with this ID.
 abbrev pub index_on : ℕ → List Channel → Option ℕ
-index_on number channels = tracked_index (position (is_on number) channels)
+index_on number channels = tracked_index (position (has_channel_id number) channels)
 
 -- The tracked channel with this ID.
 abbrev pub channel_on : ℕ → List Channel → Option Channel

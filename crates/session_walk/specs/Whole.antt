@@ -14,12 +14,12 @@ use Rattle.session_walk.specs.Walks.{is_assertion, is_success, no_rp_id}
 use Rattle.session_walk.specs.declared.rp_id.RpId.{RpId}
 use Rattle.session_walk.specs.declared.answer.ResponseStart.{ResponseStart}
 use Rattle.session_walk.specs.declared.channel.{Channel.Channel, ResponseMessage.ResponseMessage, PendingInit.PendingInit}
-use Rattle.session_walk.specs.declared.ambiguous.Ambiguous.{Ambiguous}
+use Rattle.session_walk.specs.declared.ambiguous.AmbiguousPacket.{AmbiguousPacket}
 use Rattle.session_walk.specs.declared.awaited.AwaitedReply.{AwaitedReply}
 use Rattle.session_walk.specs.declared.awaited.AwaitedReply.TheVariants.{Key, Presence, Signature}
 use Rattle.session_walk.specs.declared.entry.Role.{Role}
 use Rattle.session_walk.specs.declared.entry.Role.TheVariants.{Error, Owned, Reply}
-use Rattle.session_walk.specs.declared.transaction.{Ended.Ended, OpenTransaction.OpenTransaction, RequestNames.RequestNames}
+use Rattle.session_walk.specs.declared.transaction.{TransactionEnd.TransactionEnd, OpenTransaction.OpenTransaction, RequestNames.RequestNames}
 use Rattle.session_walk.specs.declared.transaction.Transaction.{Transaction}
 use Rattle.session_walk.specs.declared.transaction.End.TheVariants.{Cut, Dropped, Forgotten, Refused}
 
@@ -27,7 +27,7 @@ use Rattle.session_walk.specs.declared.transaction.End.TheVariants.{Cut, Dropped
 -- ambiguous continuation packet, if any, arrived too late.
 pub record PacketResult : Type 0 where
   pub channel : Channel
-  pub ended : List Ended
+  pub ended : List TransactionEnd
   pub transaction : Option OpenTransaction
   pub deferred : Bool
 
@@ -71,7 +71,7 @@ with_pending_init m part c =
     record c { last_was_init = true; pending_inits = record { items = kept ++ pending_init m part ∷ [] } }
 
 -- The ended transactions, followed by the oldest unanswered INIT if there are too many.
-abbrev pub with_oldest_ended : ℕ → List PendingInit → List Ended → List Ended
+abbrev pub with_oldest_ended : ℕ → List PendingInit → List TransactionEnd → List TransactionEnd
 with_oldest_ended channel [] ended = ended
 with_oldest_ended channel (oldest ∷ others) ended =
     if nat_lt (length others + 1) MAX_PENDING_INITS then ended else with_end ended (open_init channel oldest) Forgotten
@@ -81,7 +81,7 @@ abbrev pub init_begun : OpenTransaction → List ℕ → Channel → Channel
 init_begun m part c = with_pending_init m part (contender_accepted false (after_idle m.at c))
 
 -- The ended transactions, followed by those that a new INIT ends.
-abbrev pub ends_by_init : OpenTransaction → Channel → List Ended → List Ended
+abbrev pub ends_by_init : OpenTransaction → Channel → List TransactionEnd → List TransactionEnd
 ends_by_init m c ended =
     with_oldest_ended c.number c.pending_inits.items (ends_by_contender false (after_idle m.at c) ended)
 
@@ -155,11 +155,11 @@ without_refused_start code is_undecided c =
     else record c { contender = None }
 
 -- The result of an ERROR that belongs to no transaction.
-abbrev pub refuses_nothing : Channel → List Ended → PacketResult
+abbrev pub refuses_nothing : Channel → List TransactionEnd → PacketResult
 refuses_nothing c ended = record { channel = c; ended = ended; transaction = None; deferred = false }
 
 -- The result of an ERROR that refuses the last INIT.
-abbrev pub last_init_refused_by : ℕ → Option OpenTransaction → Channel → List Ended → PacketResult
+abbrev pub last_init_refused_by : ℕ → Option OpenTransaction → Channel → List TransactionEnd → PacketResult
 last_init_refused_by code None c ended = refuses_nothing c ended
 last_init_refused_by code (Some init) c ended = record {
   channel = without_init_at (last_init_index c) c;
@@ -170,12 +170,12 @@ last_init_refused_by code (Some init) c ended = record {
 
 -- The result of an ERROR without a current message: it refuses the last unanswered INIT, unless a packet outside any
 -- transaction came before.
-abbrev pub last_init_refused : ℕ → Channel → List Ended → PacketResult
+abbrev pub last_init_refused : ℕ → Channel → List TransactionEnd → PacketResult
 last_init_refused code c ended =
     if c.last_was_stray then refuses_nothing c ended else last_init_refused_by code (init_at (last_init_index c) c) c ended
 
 -- The result of an ERROR for the current message.
-abbrev pub current_refused : ℕ → Option OpenTransaction → Channel → List Ended → PacketResult
+abbrev pub current_refused : ℕ → Option OpenTransaction → Channel → List TransactionEnd → PacketResult
 current_refused code None c ended = last_init_refused code c ended
 current_refused code (Some current) c ended =
     if refuses_stray code c then refuses_nothing c ended
@@ -183,7 +183,7 @@ current_refused code (Some current) c ended =
 
 -- The result of an ERROR that refuses this message at its beginning. Without such a message, it refuses the current
 -- message, unless it is unknown to which message the ERROR belongs.
-abbrev pub start_refused : ℕ → (is_undecided : Bool) → Option OpenTransaction → Channel → List Ended → PacketResult
+abbrev pub start_refused : ℕ → (is_undecided : Bool) → Option OpenTransaction → Channel → List TransactionEnd → PacketResult
 start_refused code is_undecided (Some start) c ended =
     let refused = with_end ended start (Refused code) in
     record {
@@ -202,7 +202,7 @@ start_refused code true None c ended = record {
 start_refused code false None c ended = current_refused code c.current c ended
 
 -- The result of an ERROR other than a time-out.
-abbrev pub error_result : ℕ → ℕ → Channel → List Ended → PacketResult
+abbrev pub error_result : ℕ → ℕ → Channel → List TransactionEnd → PacketResult
 error_result code input c ended =
     let is_undecided = is_owner_undecided input c in
     start_refused code is_undecided (refused_start code is_undecided c) (without_refused_start code is_undecided c) ended
@@ -210,7 +210,7 @@ error_result code input c ended =
 -- The result of the initialization packet of a device message: its transaction, and the result for the channel.
 pub record StartResult : Type 0 where
   pub channel : Channel
-  pub ended : List Ended
+  pub ended : List TransactionEnd
   pub transaction : Option Transaction
   pub deferred : Bool
 
@@ -221,7 +221,7 @@ to_start_result r =
 
 -- The result of ERROR 05 for the current message: either the message timed out, or another message is refused (CTAP
 -- 2.1, section 11.2.5.2).
-abbrev pub timeout_or_refusal : Option Transaction → Option Ambiguous → ℕ → Channel → List Ended → StartResult
+abbrev pub timeout_or_refusal : Option Transaction → Option AmbiguousPacket → ℕ → Channel → List TransactionEnd → StartResult
 timeout_or_refusal (Some transaction) ambiguous input c ended = record {
   channel = timed_out ambiguous c;
   ended = ends_by_timeout ambiguous c.current ended;
@@ -233,11 +233,11 @@ timeout_or_refusal None ambiguous input c ended =
     record other { deferred = is_ambiguous_part_of_any ambiguous c.current }
 
 -- The result of ERROR 05 for the current message.
-abbrev pub current_timed_out : Option Ambiguous → ℕ → Channel → List Ended → StartResult
+abbrev pub current_timed_out : Option AmbiguousPacket → ℕ → Channel → List TransactionEnd → StartResult
 current_timed_out ambiguous input c ended = timeout_or_refusal (timeout_transaction ambiguous c.current) ambiguous input c ended
 
 -- The result of ERROR 05 for the contender, while the current message is processed.
-abbrev pub contender_timed_out : Option Ambiguous → Channel → List Ended → StartResult
+abbrev pub contender_timed_out : Option AmbiguousPacket → Channel → List TransactionEnd → StartResult
 contender_timed_out ambiguous c ended =
     let alone = record c { current = c.contender; contender = None } in
     record {
@@ -248,7 +248,7 @@ contender_timed_out ambiguous c ended =
     }
 
 -- The result of ERROR 05 if it is unknown which message timed out.
-abbrev pub both_lost_by_timeout : Channel → List Ended → StartResult
+abbrev pub both_lost_by_timeout : Channel → List TransactionEnd → StartResult
 both_lost_by_timeout c ended = record {
   channel = record (both_unidentified c) { last_asserted_rp = no_rp_id };
   ended = with_unknown_ends c ended;
@@ -257,14 +257,14 @@ both_lost_by_timeout c ended = record {
 }
 
 -- The result of ERROR 05 for the contender, unless it is unknown which message the device is processing.
-abbrev pub contender_timeout_result : Option Ambiguous → Channel → List Ended → StartResult
+abbrev pub contender_timeout_result : Option AmbiguousPacket → Channel → List TransactionEnd → StartResult
 contender_timeout_result ambiguous c ended =
     if is_owner_unknown c then both_lost_by_timeout c ended else contender_timed_out ambiguous c ended
 
 -- The result of ERROR 05 while the contender is incomplete. If the current message is complete, the contender timed
 -- out. If the contender began less than 100 ms after the last packet of the current message, the device accepted the
 -- contender, which then timed out. Otherwise, the current message timed out, unless it is unknown which message did.
-abbrev pub one_of_two_timed_out : Option Ambiguous → ℕ → (contender current : OpenTransaction) → Channel → List Ended → StartResult
+abbrev pub one_of_two_timed_out : Option AmbiguousPacket → ℕ → (contender current : OpenTransaction) → Channel → List TransactionEnd → StartResult
 one_of_two_timed_out ambiguous input contender current c ended =
     if is_complete_message current then contender_timeout_result ambiguous c ended
     else if nat_lt contender.delay 100 then current_timed_out ambiguous input (contender_accepted true c) (ends_by_contender true c ended)
@@ -272,13 +272,13 @@ one_of_two_timed_out ambiguous input contender current c ended =
     else current_timed_out ambiguous input c ended
 
 -- The result of ERROR 05.
-abbrev pub timeout_result : Option Ambiguous → ℕ → (contender current : Option OpenTransaction) → Channel → List Ended → StartResult
+abbrev pub timeout_result : Option AmbiguousPacket → ℕ → (contender current : Option OpenTransaction) → Channel → List TransactionEnd → StartResult
 timeout_result ambiguous input (Some contender) (Some current) c ended =
     if is_complete_message contender then current_timed_out ambiguous input c ended else one_of_two_timed_out ambiguous input contender current c ended
 timeout_result ambiguous input contender current c ended = current_timed_out ambiguous input c ended
 
 -- The result of an ERROR.
-abbrev pub refused : ℕ → ℕ → Option Ambiguous → Channel → List Ended → StartResult
+abbrev pub refused : ℕ → ℕ → Option AmbiguousPacket → Channel → List TransactionEnd → StartResult
 refused code input ambiguous c ended =
     if code == 5 then timeout_result ambiguous input c.contender c.current c ended
     else record (to_start_result (error_result code input c ended)) { deferred = false }
@@ -296,7 +296,7 @@ is_before init None = false
 is_before init (Some current) = nat_lt current.transaction.line init.transaction.line
 
 -- The result of the response to this INIT.
-abbrev pub init_answered : ℕ → Option OpenTransaction → Channel → List Ended → PacketResult
+abbrev pub init_answered : ℕ → Option OpenTransaction → Channel → List TransactionEnd → PacketResult
 init_answered place None c ended = record { channel = c; ended = ended; transaction = None; deferred = false }
 init_answered place (Some init) c ended =
     let alone = cleared_by_init init (without_init_at place c) in
@@ -309,7 +309,7 @@ init_answered place (Some init) c ended =
     }
 
 -- The result of an INIT response, whose nonce identifies the INIT.
-abbrev pub answered_init : List ℕ → Channel → List Ended → PacketResult
+abbrev pub answered_init : List ℕ → Channel → List TransactionEnd → PacketResult
 answered_init part c ended =
     let place = init_index (matches_nonce (Some (nonce_of part))) c.pending_inits.items in init_answered place (init_at place c) c ended
 
@@ -320,7 +320,7 @@ is_complete_uncancelled (Some current) = is_complete_message current && is_none 
 
 -- The result of a response other than to INIT: the response belongs to the complete message with the same command (CTAP
 -- 2.1, section 11.2.4).
-abbrev pub message_answered : ResponseStart → Channel → List Ended → PacketResult
+abbrev pub message_answered : ResponseStart → Channel → List TransactionEnd → PacketResult
 message_answered answer c ended =
     let is_held = can_answer answer c.current in
     let is_asked = is_for_contender answer c in
@@ -338,7 +338,7 @@ message_answered answer c ended =
     else record { channel = record c { current = c.contender; contender = None }; ended = ended; transaction = c.current; deferred = false }
 
 -- The result of a response.
-abbrev pub response_result : ResponseStart → Channel → List Ended → PacketResult
+abbrev pub response_result : ResponseStart → Channel → List TransactionEnd → PacketResult
 response_result answer c ended =
     if answer.command == INIT then answered_init answer.part.now c ended
     else message_answered answer c ended
@@ -368,7 +368,7 @@ with_response answer r =
     record r { channel = with_response_of answer exchange r.channel; deferred = false }
 
 -- The ended transactions, followed by the one whose incomplete response ends because the device begins another message.
-abbrev pub truncated_by : ResponseMessage → List Ended → List Ended
+abbrev pub truncated_by : ResponseMessage → List TransactionEnd → List TransactionEnd
 truncated_by last_response ended =
     if is_whole last_response.progress.length last_response.progress.continuations then ended else with_end_of ended last_response.exchange (Cut last_response.progress)
 
@@ -380,13 +380,13 @@ response_closed c = record c {
 
 -- The ended transactions, followed by that of the current message if a KEEPALIVE shows that the device is processing
 -- only the contender.
-abbrev pub ends_by_keepalive : Channel → List Ended → List Ended
+abbrev pub ends_by_keepalive : Channel → List TransactionEnd → List TransactionEnd
 ends_by_keepalive c ended =
     if not (is_owner_unknown c) && (is_in_process c.contender && not (is_in_process c.current)) then ends_by_contender true c ended
     else ended
 
 -- The result of a KEEPALIVE (CTAP 2.1, section 11.2.9.1.7).
-abbrev pub keepalive_result : ℕ → ℕ → ℕ → Channel → List Ended → StartResult
+abbrev pub keepalive_result : ℕ → ℕ → ℕ → Channel → List TransactionEnd → StartResult
 keepalive_result status input now c ended = record {
   channel = after_keepalive status input now c;
   ended = ends_by_keepalive c ended;
@@ -395,7 +395,7 @@ keepalive_result status input now c ended = record {
 }
 
 -- The result of a device message by its command: ERROR, KEEPALIVE, or a response.
-unfoldable pub result_of_command : ResponseStart → ℕ → ℕ → Option Ambiguous → Channel → List Ended → StartResult
+unfoldable pub result_of_command : ResponseStart → ℕ → ℕ → Option AmbiguousPacket → Channel → List TransactionEnd → StartResult
 result_of_command answer input now ambiguous c ended =
     if answer.command == ERROR then refused (unwrap_or answer.status 0) input ambiguous c ended
     else if answer.command == KEEPALIVE then keepalive_result (unwrap_or answer.status 0) input now c ended
@@ -421,7 +421,7 @@ abbrev pub device_role : ResponseStart → Option Transaction → Role
 device_role answer transaction = if (answer.command == ERROR) && is_none transaction then Error else Owned
 
 -- The result of the initialization packet of a device message on a channel.
-abbrev pub after_device_start : ResponseStart → ℕ → ℕ → Option Ambiguous → Channel → List Ended → StartResult
+abbrev pub after_device_start : ResponseStart → ℕ → ℕ → Option AmbiguousPacket → Channel → List TransactionEnd → StartResult
 after_device_start answer input now ambiguous c ended =
     let r = result_of_command answer input now ambiguous (response_closed c) (truncated_by c.last_response ended) in
     record r { channel = after_device_packet answer now (is_some r.transaction) r.channel }

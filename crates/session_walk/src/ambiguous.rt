@@ -6,7 +6,7 @@ use session_log::Line;
 /// A host's continuation packet that may have arrived after its message timed out. The next line other than a comment
 /// shows whether it did: a device that dropped the message sends an ERROR first.
 #[derive(Clone, Copy)]
-pub struct Ambiguous {
+pub struct AmbiguousPacket {
     pub line: u64,
     /// The parsed line.
     pub parsed: Line,
@@ -30,7 +30,7 @@ pub struct CompletedMessage {
 
 /// An ambiguous packet after it was resolved.
 #[derive(Clone, Copy)]
-pub struct Resolved {
+pub struct ResolvedPacket {
     pub line: u64,
     pub parsed: Line,
     /// The packet's transaction; `None` if it arrived too late.

@@ -16,7 +16,8 @@ use crate::awaited::AwaitedReply;
 use crate::entry::Role;
 use crate::rp_id::RpId;
 use crate::transaction::{
-    End, EndedList, MessageProgress, OpenTransaction, RequestNames, Transaction, is_processing,
+    End, MessageProgress, OpenTransaction, RequestNames, Transaction, TransactionEnds,
+    is_processing,
 };
 use arrayvec::ArrayVec;
 use hid_packet::CONT_PACKET_DATA;
@@ -231,10 +232,10 @@ impl Channel {
     }
 
     /// Returns the open transactions. Each one has the end that applies if no packet follows.
-    pub fn open(&self) -> EndedList
+    pub fn open(&self) -> TransactionEnds
         ensures { result.0.items ≡ open_transactions self.now }
     {
-        let mut open = EndedList::default();
+        let mut open = TransactionEnds::default();
         if self.is_answering()
             && let Some(exchange) = self.last_response.exchange
         {
@@ -255,7 +256,7 @@ impl Channel {
     /// Ends the open transactions as no longer tracked.
     ///
     /// A separate function, because its caller runs for each packet and would need the list's stack space each time.
-    pub fn end_untracked(&self, ended: &mut EndedList)
+    pub fn end_untracked(&self, ended: &mut TransactionEnds)
         ensures { ended.new.0.items ≡ with_forgotten ended.old.0.items (open_transactions self.now) }
     {
         for open in self.open().0.as_slice() {
@@ -264,7 +265,7 @@ impl Channel {
     }
 
     /// Ends the open transactions as dropped by the INIT on this line.
-    pub fn end_dropped(&self, line: u64, ended: &mut EndedList)
+    pub fn end_dropped(&self, line: u64, ended: &mut TransactionEnds)
         ensures { ended.new.0.items ≡ with_dropped line ended.old.0.items (open_transactions self.now) }
     {
         for open in self.open().0.as_slice() {
@@ -287,7 +288,7 @@ impl Channel {
 
     /// Begins a message other than CANCEL. Until its response, an INIT changes nothing else (section 11.2.9.1.3). If
     /// another message is open on the channel, it isn't known yet which of the two the device continues.
-    pub fn begin(&mut self, mut begun: OpenTransaction, part: &[u8], ended: &mut EndedList)
+    pub fn begin(&mut self, mut begun: OpenTransaction, part: &[u8], ended: &mut TransactionEnds)
         ensures message { (begun.transaction.message ≡ INIT_COMMAND → ⊥) → self.new ≡ channel_with_message begun self.old }
         ensures ended { (begun.transaction.message ≡ INIT_COMMAND → ⊥)
             → ended.new.0.items ≡ ends_by_contender false (after_idle begun.at self.old) ended.old.0.items }

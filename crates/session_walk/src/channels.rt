@@ -1,10 +1,10 @@
 //! The channels of a log that are tracked at the same time.
 ghost use Rattle.session_walk.specs.declared.channel.Channel.{Channel as AnyChannel};
-ghost use Rattle.session_walk.specs.Walks.{channel_on, is_on, index_on, may_wait};
+ghost use Rattle.session_walk.specs.Walks.{channel_on, has_channel_id, index_on, may_wait};
 ghost use Rattle.std.specs.Prelude.{ℕ, count_by, false, is_none, option_map, position, slice_get, true, None, Some, ◌≡◌, ◌<◌, IfSome, if◌then◌else◌};
 ghost use Rattle.std.specs.Option.{option_copied};
 ghost use Rattle.session_walk.specs.Channels.{AreWithoutAssertion, IsEvictedFirst, after_allocation, allocating_line, ends_by_allocation};
-ghost use Rattle.session_walk.specs.Channels.{first_open_after, may_any_be_processing, open_transactions, replaces_assertion, tracked_channel, with_forgotten};
+ghost use Rattle.session_walk.specs.Channels.{first_open_transaction_after, may_any_be_processing, open_transactions, replaces_assertion, tracked_channel, with_forgotten};
 ghost use Rattle.session_walk.specs.Walks.{allocated_channel};
 ghost use Rattle.session_walk.specs.Whole.{has_unfinished_response, is_idle, last_transaction};
 ghost use Rattle.session_walk.specs.declared.entry.Role.TheVariants.{Owned};
@@ -13,7 +13,7 @@ use crate::answer::ResponseStart;
 use crate::channel::Channel;
 use crate::entry::Role;
 use crate::rp_id::RpId;
-use crate::transaction::{Ended, EndedList, OpenTransaction, Transaction};
+use crate::transaction::{OpenTransaction, Transaction, TransactionEnd, TransactionEnds};
 use hid_packet::BROADCAST;
 use hid_packet::command::INIT;
 
@@ -34,7 +34,7 @@ pub struct Channels {
 impl Channels {
     /// Returns the index of a channel and records its use on a line at time `now`. A new channel evicts the least
     /// recently used one, preferring idle ones.
-    pub fn place(&mut self, number: u32, line: u64, now: u64, ended: &mut EndedList) -> usize
+    pub fn place(&mut self, number: u32, line: u64, now: u64, ended: &mut TransactionEnds) -> usize
         ensures within { result < 6 }
         ensures found { (c : AnyChannel) → channel_on number self.old.list ≡ Some c
             → slice_get self.new.list result ≡ Some (record c { used = line }) }
@@ -79,7 +79,7 @@ impl Channels {
 
     /// Returns the index of the first entry of a channel.
     fn first_on(&self, number: u32) -> Option<usize>
-        ensures { result ≡ position (is_on number) self.now.list }
+        ensures { result ≡ position (has_channel_id number) self.now.list }
     {
         self.list
             .as_slice()
@@ -162,7 +162,7 @@ impl Channels {
         place: usize,
         answer: &ResponseStart<'_>,
         transaction: &Option<Transaction>,
-        ended: &mut EndedList,
+        ended: &mut TransactionEnds,
     )
         ensures allocated { (line : ℕ) → allocating_line answer.now transaction.now ≡ Some line
             → self.new.list ≡ after_allocation (allocated_channel answer.now.part.now) line self.old.list }
@@ -203,7 +203,7 @@ impl Channels {
 
     /// Records the channel that the response to the INIT on this line allocates. If it was in use, the key has
     /// restarted, and the transactions open on it are dropped.
-    fn allocate_channel(&mut self, number: u32, line: u64, ended: &mut EndedList)
+    fn allocate_channel(&mut self, number: u32, line: u64, ended: &mut TransactionEnds)
         ensures channels { self.new.list ≡ after_allocation number line self.old.list }
         ensures ended { ended.new.0.items ≡ ends_by_allocation number line self.old.list ended.old.0.items }
         ensures forgotten { self.new.has_forgotten ≡ self.old.has_forgotten }
@@ -218,10 +218,10 @@ impl Channels {
     }
 
     /// Returns the open transaction that began first after a line.
-    pub fn first_open_after(&self, line: u64) -> Option<Ended>
-        ensures { result ≡ first_open_after line self.now.list }
+    pub fn first_open_transaction_after(&self, line: u64) -> Option<TransactionEnd>
+        ensures { result ≡ first_open_transaction_after line self.now.list }
     {
-        let mut first: Option<Ended> = None;
+        let mut first: Option<TransactionEnd> = None;
         for channel in self.list.as_slice() {
             first = channel.open().first_after(line, first);
         }

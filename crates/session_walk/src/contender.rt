@@ -9,7 +9,7 @@ ghost use Rattle.session_walk.specs.Whole.{init_at, without_init_at};
 
 use crate::channel::Channel;
 use crate::rp_id::RpId;
-use crate::transaction::{End, EndedList, OpenTransaction, Transaction};
+use crate::transaction::{End, OpenTransaction, Transaction, TransactionEnds};
 
 impl Channel {
     /// Returns whether the transaction of the device's next packet is unknown after the input on line `input`. If a
@@ -25,7 +25,7 @@ impl Channel {
 
     /// Ends `current` and `contender` as unknown, because a packet may belong to either of them. One of them may still
     /// be pending.
-    pub fn end_as_unknown(&mut self, ended: &mut EndedList)
+    pub fn end_as_unknown(&mut self, ended: &mut TransactionEnds)
         ensures state { self.new ≡ record (both_unidentified self.old) { last_asserted_rp = no_rp_id } }
         ensures ended { ended.new.0.items ≡ with_unknown_ends self.old ended.old.0.items }
     {
@@ -39,7 +39,7 @@ impl Channel {
 
     /// Makes `contender` the current message. With `is_shown`, a device packet shows that the contender was accepted.
     /// Otherwise, the contender wasn't refused before the next message began.
-    pub fn accept_contender(&mut self, is_shown: bool, ended: &mut EndedList)
+    pub fn accept_contender(&mut self, is_shown: bool, ended: &mut TransactionEnds)
         ensures state { self.new ≡ contender_accepted is_shown self.old }
         ensures ended { ended.new.0.items ≡ ends_by_contender is_shown self.old ended.old.0.items }
     {
@@ -66,7 +66,7 @@ impl Channel {
     }
 
     /// Ends `current`, and returns its transaction. `contender` takes its place.
-    pub fn end_current(&mut self, end: End, ended: &mut EndedList) -> Option<Transaction>
+    pub fn end_current(&mut self, end: End, ended: &mut TransactionEnds) -> Option<Transaction>
         ensures state { self.new ≡ current_ended self.old }
         ensures ended { ended.new.0.items ≡ with_end_of ended.old.0.items self.old.current end }
         ensures transaction { result ≡ transaction_of self.old.current }

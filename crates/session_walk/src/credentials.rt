@@ -43,7 +43,7 @@ const ALLOW_LIST: i128 = 3;
 
 /// An excludeList entry for a credential that the log created.
 #[derive(Clone, Copy)]
-pub struct Excluded {
+pub struct ExcludedCredential {
     /// Index in the list.
     pub place: u64,
     /// Last line of the response that created the credential.
@@ -168,7 +168,7 @@ impl Credentials {
     }
 
     /// Returns the entry of a request's excludeList that the log created last, if any.
-    fn find_excluded(&self, relying_party: &[u8], item: &[u8]) -> Option<Excluded> {
+    fn find_excluded(&self, relying_party: &[u8], item: &[u8]) -> Option<ExcludedCredential> {
         let Some(list) = value_at(item, Item::Int(EXCLUDE_LIST)) else {
             return None;
         };
@@ -176,14 +176,14 @@ impl Credentials {
         let Ok(Item::Array(count)) = cursor.item(1) else {
             return None;
         };
-        let mut last = Excluded { place: 0, line: 0 };
+        let mut last = ExcludedCredential { place: 0, line: 0 };
         for place in 0..count {
             let Some(entry) = next_value(&mut cursor, list) else {
                 return None;
             };
             let line = self.line_of(relying_party, entry);
             if line > last.line {
-                last = Excluded { place, line };
+                last = ExcludedCredential { place, line };
             }
         }
         if last.line > 0 { Some(last) } else { None }

@@ -8,7 +8,7 @@ ghost use Rattle.std.specs.Prelude.{option_map, position};
 ghost use Rattle.session_walk.specs.Owners.{transaction_of};
 ghost use Rattle.session_walk.specs.Whole.{device_role, after_device_packet, after_device_start, ends_by_keepalive, response_closed, response_result, result_of_command, truncated_by, with_asserted_rp, with_response, with_response_of, answered_init, init_index, matches_nonce, message_answered};
 
-use crate::ambiguous::Ambiguous;
+use crate::ambiguous::AmbiguousPacket;
 use crate::answer::{ContinuedResponse, ResponseStart, StartedResponse};
 use crate::awaited::AwaitedReply;
 use crate::channel::{Channel, ResponseMessage, parse_nonce};
@@ -18,7 +18,7 @@ use crate::keepalive_status::{PROCESSING, UPNEEDED};
 use crate::rp_id::RpId;
 use crate::status::{KEEPALIVE_CANCEL, OK};
 use crate::transaction::{
-    End, EndedList, MessageProgress, OpenTransaction, Transaction, is_processing,
+    End, MessageProgress, OpenTransaction, Transaction, TransactionEnds, is_processing,
 };
 use hid_packet::BROADCAST;
 use hid_packet::command::{ERROR, INIT, KEEPALIVE};
@@ -33,8 +33,8 @@ impl Channel {
         &mut self,
         answer: &ResponseStart<'_>,
         behind: (u64, u64),
-        ambiguous: &Option<Ambiguous>,
-        ended: &mut EndedList,
+        ambiguous: &Option<AmbiguousPacket>,
+        ended: &mut TransactionEnds,
     ) -> StartedResponse
         ensures state { self.new ≡ (after_device_start answer.now behind.0 behind.1 ambiguous.now self.old ended.old.0.items).channel }
         ensures ended { ended.new.0.items
@@ -62,8 +62,8 @@ impl Channel {
         &mut self,
         answer: &ResponseStart<'_>,
         behind: (u64, u64),
-        ambiguous: &Option<Ambiguous>,
-        ended: &mut EndedList,
+        ambiguous: &Option<AmbiguousPacket>,
+        ended: &mut TransactionEnds,
     ) -> (Option<Transaction>, bool)
         ensures state { self.new ≡ (after_device_start answer.now behind.0 behind.1 ambiguous.now self.old ended.old.0.items).channel }
         ensures ended { ended.new.0.items
@@ -81,7 +81,7 @@ impl Channel {
 
     /// Ends the device's last message, because no further packet of it can follow, and its transaction if the message
     /// is incomplete.
-    fn close_response(&mut self, ended: &mut EndedList)
+    fn close_response(&mut self, ended: &mut TransactionEnds)
         ensures state { self.new ≡ response_closed self.old }
         ensures ended { ended.new.0.items ≡ truncated_by self.old.last_response ended.old.0.items }
     {
@@ -105,8 +105,8 @@ impl Channel {
         &mut self,
         answer: &ResponseStart<'_>,
         behind: (u64, u64),
-        ambiguous: &Option<Ambiguous>,
-        ended: &mut EndedList,
+        ambiguous: &Option<AmbiguousPacket>,
+        ended: &mut TransactionEnds,
     ) -> (Option<Transaction>, bool)
         ensures state { self.new ≡ (result_of_command answer.now behind.0 behind.1 ambiguous.now self.old ended.old.0.items).channel }
         ensures ended { ended.new.0.items
@@ -152,7 +152,7 @@ impl Channel {
         &mut self,
         status: u8,
         behind: (u64, u64),
-        ended: &mut EndedList,
+        ended: &mut TransactionEnds,
     ) -> Option<Transaction>
         ensures state { self.new ≡ after_keepalive status behind.0 behind.1 self.old }
         ensures transaction { result ≡ keepalive_transaction behind.0 behind.1 self.old }
@@ -225,7 +225,11 @@ impl Channel {
     }
 
     /// Handles the initialization packet of a response, and returns its transaction.
-    fn answer(&mut self, answer: &ResponseStart<'_>, ended: &mut EndedList) -> Option<Transaction>
+    fn answer(
+        &mut self,
+        answer: &ResponseStart<'_>,
+        ended: &mut TransactionEnds,
+    ) -> Option<Transaction>
         ensures state { self.new
             ≡ (with_response answer.now (response_result answer.now self.old ended.old.0.items)).channel }
         ensures ended { ended.new.0.items ≡ (response_result answer.now self.old ended.old.0.items).ended }
@@ -239,7 +243,7 @@ impl Channel {
     fn take_answered_message(
         &mut self,
         answer: &ResponseStart<'_>,
-        ended: &mut EndedList,
+        ended: &mut TransactionEnds,
     ) -> Option<OpenTransaction>
         ensures state { self.new ≡ (response_result answer.now self.old ended.old.0.items).channel }
         ensures ended { ended.new.0.items ≡ (response_result answer.now self.old ended.old.0.items).ended }
@@ -284,7 +288,7 @@ impl Channel {
     fn on_init_response(
         &mut self,
         answer: &ResponseStart<'_>,
-        ended: &mut EndedList,
+        ended: &mut TransactionEnds,
     ) -> Option<OpenTransaction>
         ensures state { self.new ≡ (answered_init answer.now.part.now self.old ended.old.0.items).channel }
         ensures ended { ended.new.0.items ≡ (answered_init answer.now.part.now self.old ended.old.0.items).ended }
@@ -314,7 +318,7 @@ impl Channel {
     fn on_message_response(
         &mut self,
         answer: &ResponseStart<'_>,
-        ended: &mut EndedList,
+        ended: &mut TransactionEnds,
     ) -> Option<OpenTransaction>
         ensures transaction { result ≡ answered_message answer.now self.old }
         ensures message { result ≡ (message_answered answer.now self.old ended.old.0.items).transaction }

@@ -7,13 +7,13 @@ ghost use Rattle.session_walk.specs.Ends.{timed_out, ends_by_timeout};
 ghost use Rattle.session_walk.specs.Owners.{transaction_of};
 ghost use Rattle.session_walk.specs.Whole.{contender_timeout_result, current_refused, current_timed_out, timeout_result, last_init_refused, refused_init, refused_start, start_refused, without_refused_start, can_refuse_init, error_result, refused as refusal_result};
 
-use crate::ambiguous::Ambiguous;
+use crate::ambiguous::AmbiguousPacket;
 use crate::channel::Channel;
 use crate::device::MIN_TIMEOUT_MS;
 use crate::error_code::{
     CHANNEL_BUSY, INVALID_CHANNEL, INVALID_CMD, INVALID_LEN, INVALID_SEQ, MSG_TIMEOUT, OTHER,
 };
-use crate::transaction::{End, EndedList, OpenTransaction, Transaction};
+use crate::transaction::{End, OpenTransaction, Transaction, TransactionEnds};
 use hid_packet::BROADCAST;
 use hid_packet::command::INIT;
 
@@ -23,8 +23,8 @@ impl Channel {
         &mut self,
         code: u8,
         input: u64,
-        ambiguous: &Option<Ambiguous>,
-        ended: &mut EndedList,
+        ambiguous: &Option<AmbiguousPacket>,
+        ended: &mut TransactionEnds,
     ) -> (Option<Transaction>, bool)
         ensures state { self.new ≡ (refusal_result code input ambiguous.now self.old ended.old.0.items).channel }
         ensures ended { ended.new.0.items ≡ (refusal_result code input ambiguous.now self.old ended.old.0.items).ended }
@@ -42,8 +42,8 @@ impl Channel {
     fn on_timeout(
         &mut self,
         input: u64,
-        ambiguous: &Option<Ambiguous>,
-        ended: &mut EndedList,
+        ambiguous: &Option<AmbiguousPacket>,
+        ended: &mut TransactionEnds,
     ) -> (Option<Transaction>, bool)
         ensures state { self.new
             ≡ (timeout_result ambiguous.now input self.old.contender self.old.current self.old ended.old.0.items).channel }
@@ -78,8 +78,8 @@ impl Channel {
     fn time_out_current(
         &mut self,
         input: u64,
-        ambiguous: &Option<Ambiguous>,
-        ended: &mut EndedList,
+        ambiguous: &Option<AmbiguousPacket>,
+        ended: &mut TransactionEnds,
     ) -> (Option<Transaction>, bool)
         ensures state { self.new ≡ (current_timed_out ambiguous.now input self.old ended.old.0.items).channel }
         ensures ended { ended.new.0.items ≡ (current_timed_out ambiguous.now input self.old ended.old.0.items).ended }
@@ -97,8 +97,8 @@ impl Channel {
     /// arrived too late for it.
     fn time_out(
         &mut self,
-        ambiguous: &Option<Ambiguous>,
-        ended: &mut EndedList,
+        ambiguous: &Option<AmbiguousPacket>,
+        ended: &mut TransactionEnds,
     ) -> (Option<Transaction>, bool)
         ensures state { self.new ≡ timed_out ambiguous.now self.old }
         ensures ended { ended.new.0.items ≡ ends_by_timeout ambiguous.now self.old.current ended.old.0.items }
@@ -126,8 +126,8 @@ impl Channel {
     /// Ends `contender` by a time-out, while `current` is still processed.
     fn time_out_contender(
         &mut self,
-        ambiguous: &Option<Ambiguous>,
-        ended: &mut EndedList,
+        ambiguous: &Option<AmbiguousPacket>,
+        ended: &mut TransactionEnds,
     ) -> (Option<Transaction>, bool)
         ensures state { self.new ≡ (contender_timeout_result ambiguous.now self.old ended.old.0.items).channel }
         ensures ended { ended.new.0.items ≡ (contender_timeout_result ambiguous.now self.old ended.old.0.items).ended }
@@ -148,7 +148,7 @@ impl Channel {
     }
 
     /// Ends the incomplete message before a message that is refused with this code, if the error ends both.
-    fn end_interrupted(&mut self, refused: &Transaction, code: u8, ended: &mut EndedList)
+    fn end_interrupted(&mut self, refused: &Transaction, code: u8, ended: &mut TransactionEnds)
         ensures state { self.new ≡ (if also_ends refused.now code self.old.current then current_ended self.old else self.old) }
         ensures ended { ended.new.0.items ≡ (if also_ends refused.now code self.old.current
             then with_end_of ended.old.0.items self.old.current (interrupted_end refused.now) else ended.old.0.items) }
@@ -169,7 +169,12 @@ impl Channel {
     }
 
     /// Handles an ERROR other than the time-out of an open message.
-    fn end_refused(&mut self, code: u8, input: u64, ended: &mut EndedList) -> Option<Transaction>
+    fn end_refused(
+        &mut self,
+        code: u8,
+        input: u64,
+        ended: &mut TransactionEnds,
+    ) -> Option<Transaction>
         ensures state { self.new ≡ (error_result code input self.old ended.old.0.items).channel }
         ensures ended { ended.new.0.items ≡ (error_result code input self.old ended.old.0.items).ended }
         ensures transaction { result ≡ transaction_of (error_result code input self.old ended.old.0.items).transaction }
@@ -186,7 +191,7 @@ impl Channel {
         code: u8,
         is_undecided: bool,
         start: &Option<OpenTransaction>,
-        ended: &mut EndedList,
+        ended: &mut TransactionEnds,
     ) -> Option<Transaction>
         ensures state { self.new ≡ (start_refused code is_undecided start.now self.old ended.old.0.items).channel }
         ensures ended { ended.new.0.items ≡ (start_refused code is_undecided start.now self.old ended.old.0.items).ended }
@@ -240,7 +245,7 @@ impl Channel {
 
     /// Handles an ERROR for the current message. After a KEEPALIVE, a request isn't refused with the codes listed
     /// below.
-    fn end_refused_current(&mut self, code: u8, ended: &mut EndedList) -> Option<Transaction>
+    fn end_refused_current(&mut self, code: u8, ended: &mut TransactionEnds) -> Option<Transaction>
         ensures state { self.new ≡ (current_refused code self.old.current self.old ended.old.0.items).channel }
         ensures ended { ended.new.0.items ≡ (current_refused code self.old.current self.old ended.old.0.items).ended }
         ensures transaction { result
@@ -261,7 +266,7 @@ impl Channel {
     }
 
     /// Handles an ERROR for the last INIT, unless a packet outside any transaction came before.
-    fn end_refused_init(&mut self, code: u8, ended: &mut EndedList) -> Option<Transaction>
+    fn end_refused_init(&mut self, code: u8, ended: &mut TransactionEnds) -> Option<Transaction>
         ensures state { self.new ≡ (last_init_refused code self.old ended.old.0.items).channel }
         ensures ended { ended.new.0.items ≡ (last_init_refused code self.old ended.old.0.items).ended }
         ensures transaction { result ≡ transaction_of (last_init_refused code self.old ended.old.0.items).transaction }

@@ -2,7 +2,7 @@
 ghost use Rattle.std.specs.Prelude.{◌≡◌, option_map};
 ghost use Rattle.hid_packet.specs.Packet.{channel_of, fields};
 
-use crate::transaction::{Ended, OpenTransaction, Transaction};
+use crate::transaction::{OpenTransaction, Transaction, TransactionEnd};
 use hid_packet::{Packet, View};
 use session_log::Line;
 
@@ -72,7 +72,7 @@ pub struct Entry<'a> {
     /// The line's role in transactions.
     pub role: Role,
     /// The transactions that the line ends.
-    pub ended: &'a [Ended],
+    pub ended: &'a [TransactionEnd],
     /// First line of the message of the line's packet, or 0 if there is none; `None` unless the output is for the web
     /// page.
     pub page: Option<u64>,

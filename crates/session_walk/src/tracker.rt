@@ -9,11 +9,11 @@ ghost use Rattle.session_walk.specs.Lines.{EndsNothing};
 ghost use Rattle.std.specs.Prelude.{List, [], ◌∷◌, ◌+◌, length, true, false, slice_get};
 ghost use Rattle.hid_packet.specs.Packet.{ERROR as ERROR_COMMAND, INIT as INIT_COMMAND};
 ghost use Rattle.session_log.specs.declared.line.{Line.Line as AnyLine, Line.TheVariants.Input as InputLine};
-ghost use Rattle.session_walk.specs.declared.{channel.Channel.Channel as AnyChannel, ambiguous.Ambiguous.Ambiguous as AnyDoubtful};
+ghost use Rattle.session_walk.specs.declared.{channel.Channel.Channel as AnyChannel, ambiguous.AmbiguousPacket.AmbiguousPacket as AnyDoubtful};
 ghost use Rattle.session_walk.specs.Owners.{continued_message, match_if_incomplete};
 ghost use Rattle.session_walk.specs.Walks.{IsTrackerAfter, IsAt, answered, status_of, waiting_on, resolved_transaction, ambiguous_after, current_time_at, channel_on, host_message, input_line_after, time_after_line, continued_message_line, continued_transaction};
 
-use crate::ambiguous::{Ambiguous, CompletedMessage, Resolved};
+use crate::ambiguous::{AmbiguousPacket, CompletedMessage, ResolvedPacket};
 use crate::awaited::AwaitedReply;
 use crate::channel::ContinuationMatch;
 use crate::channels::Channels;
@@ -21,7 +21,9 @@ use crate::credentials::Credentials;
 use crate::device::MIN_TIMEOUT_MS;
 use crate::entry::{Role, channel_of};
 use crate::message_buffers::MessageBuffers;
-use crate::transaction::{EndedList, MessageProgress, OpenTransaction, RequestNames, Transaction};
+use crate::transaction::{
+    MessageProgress, OpenTransaction, RequestNames, Transaction, TransactionEnds,
+};
 use hid_packet::command::{CANCEL, CBOR, INIT};
 use hid_packet::{CONT_PACKET_DATA, Packet, View};
 use session_log::Line;
@@ -37,9 +39,9 @@ pub struct TransactionTracker {
     pub(crate) now: u64,
     /// Line of the last input.
     pub(crate) input: u64,
-    pub(crate) ambiguous: Option<Ambiguous>,
+    pub(crate) ambiguous: Option<AmbiguousPacket>,
     /// Transactions that the last line ends.
-    pub ended: EndedList,
+    pub ended: TransactionEnds,
     /// The last line's transaction, if any.
     pub transaction: Option<Transaction>,
     /// Line of the initialization packet of the last packet's message, or 0 if none.
@@ -51,7 +53,7 @@ pub struct TransactionTracker {
     /// The message that the last line completes.
     pub completed: Option<CompletedMessage>,
     /// The ambiguous packet that the last line resolves.
-    pub(crate) resolved: Option<Resolved>,
+    pub(crate) resolved: Option<ResolvedPacket>,
 }
 
 impl TransactionTracker {
@@ -66,7 +68,7 @@ impl TransactionTracker {
             now: 0,
             input: 0,
             ambiguous: None,
-            ended: EndedList::default(),
+            ended: TransactionEnds::default(),
             transaction: None,
             message_start: 0,
             data_len: 0,
@@ -338,7 +340,7 @@ impl TransactionTracker {
         }
         let is_whole = continuation.is_whole && transaction.command.is_some();
         if continuation.gap >= MIN_TIMEOUT_MS {
-            self.ambiguous = Some(Ambiguous {
+            self.ambiguous = Some(AmbiguousPacket {
                 line: number,
                 parsed: Line::Input(*timed),
                 transaction,
@@ -393,7 +395,7 @@ impl TransactionTracker {
             return;
         };
         self.ambiguous = None;
-        let mut resolved = Resolved {
+        let mut resolved = ResolvedPacket {
             line: ambiguous.line,
             parsed: ambiguous.parsed,
             transaction: None,

@@ -10,7 +10,7 @@ ghost use Rattle.std.specs.Prelude.{◌&&◌, ◌||◌, ◌==◌, not};
 use crate::awaited::AwaitedReply;
 use crate::command::{GET_ASSERTION, MAKE_CREDENTIAL, RESET, SELECTION};
 use crate::command_names::name_in;
-use crate::credentials::{Excluded, HashedId};
+use crate::credentials::{ExcludedCredential, HashedId};
 use crate::rp_id::RpId;
 use crate::standard::{COMMANDS, MESSAGES};
 use arrayvec::ArrayVec;
@@ -101,7 +101,7 @@ impl MessageProgress {
 pub struct RequestNames {
     pub rp_id: RpId,
     /// The credential created in this log that the request excludes.
-    pub excluded: Option<Excluded>,
+    pub excluded: Option<ExcludedCredential>,
     /// The account for which the request creates a discoverable credential.
     pub account: Option<HashedId>,
     /// Whether the request needs no user presence: its option `up` is false.
@@ -203,18 +203,18 @@ pub enum End {
     Open,
 }
 
-/// A transaction that ended, and how.
+/// A transaction, and how it ended.
 #[derive(Clone, Copy, Default)]
-pub struct Ended {
+pub struct TransactionEnd {
     pub exchange: OpenTransaction,
     pub end: End,
 }
 
 /// The transactions that end at a line, in order.
 #[derive(Drop, Default)]
-pub struct EndedList(pub ArrayVec<Ended, MAX_ENDED>);
+pub struct TransactionEnds(pub ArrayVec<TransactionEnd, MAX_ENDED>);
 
-impl EndedList {
+impl TransactionEnds {
     /// Adds a transaction; does nothing if the list is full.
     pub fn add(&mut self, exchange: OpenTransaction, end: End)
         ensures space { array_vec_len self.old.0 < 8
@@ -222,11 +222,11 @@ impl EndedList {
         ensures full { array_vec_len self.old.0 ≡ 8 → self.new ≡ self.old }
         ensures value { self.new.0.items ≡ with_end self.old.0.items exchange end }
     {
-        let _ = self.0.try_push(Ended { exchange, end });
+        let _ = self.0.try_push(TransactionEnd { exchange, end });
     }
 
     /// Returns the transaction that began first after a line, among these and `other`.
-    pub fn first_after(&self, line: u64, other: Option<Ended>) -> Option<Ended>
+    pub fn first_after(&self, line: u64, other: Option<TransactionEnd>) -> Option<TransactionEnd>
         ensures { result ≡ first_after line other self.now.0.items }
     {
         let mut first = other;

@@ -12,7 +12,7 @@ use Rattle.session_log.proofs.{Cutting.line_in_front, Through.stops_unwritten}
 use Rattle.session_log.proofs.Through.{read_on, short_in_front, some_left}
 use Rattle.session_log.proofs.Through.{on_any, on_err, counts_none, counts_on, plays_counts, plays_unread}
 use Rattle.session_log.proofs.Lasts.{faulty_in_front, faulty_last, none_bad}
-use Rattle.session_show.specs.Shown.{Shows, ShowsLine, WritesEnd, WritesLine, read_only_world, rule_for_format, unknown_bytes, failures_of}
+use Rattle.session_show.specs.Shown.{Shows, ShowsLine, WritesEnd, WritesLine, read_only_semantics, rule_for_format, unknown_bytes, failures_of}
 use Rattle.session_show.specs.declared.log_writer.OutputFormat.{OutputFormat}
 use Rattle.session_show.proofs.Told.{as_err, behind_nothing, behind_reach, behind_reads, behind_writes, shown_on, told_behind}
 use Rattle.session_show.proofs.Told.{told_last, told_line, told_none, told_to_line, told_to_read, unwritten_back}
@@ -34,7 +34,7 @@ lines-init g c =
         [],
         subst (Consumes (left c.args.reader.now) (left c.args.reader.now)) (sym c.new-window.ensures)
             (Consumes-nil (left c.args.reader.now)),
-        through_none read_only_world tt,
+        through_none read_only_semantics tt,
         ([], Appends-nil (g.T.Target.taken c.args.writer.now), told_none (rule_for_format c.args.log_writer.now.format)),
       );
     }
@@ -65,7 +65,7 @@ lines-preserved g c =
       format = c.in_ok-write_next_line.ensures.format ∙ same;
       done = (
         before.0 ++ take (c.in-Some.end + 1) w,
-        before.1 ++ line_text read_only_world tt line,
+        before.1 ++ line_text read_only_semantics tt line,
         next.0,
         next.1,
         (
@@ -97,7 +97,7 @@ returns-in_err-end g c =
           (told_to_read (rule_for_format c.args.log_writer.now.format) (left c.args.reader.now) (left c.next_line.new.reader)
           (g.T.Target.taken c.args.writer.now) (g.T.Target.taken c.lines.writer)
           before.0 before.1 before.4.0 w c.lines.number e read before.3 before.4.1 before.4.2.0 stopped);
-      reach = as_err r e (λ (q : Ending). ReadsTo read_only_world tt (left c.args.reader.now) (left c.next_line.new.reader) all
+      reach = as_err r e (λ (q : Ending). ReadsTo read_only_semantics tt (left c.args.reader.now) (left c.next_line.new.reader) all
           q) is
           (none_bad before.3 (left c.args.reader.now) (left c.next_line.new.reader) w read all e
           c.lines.invariant.counted stopped);
@@ -142,7 +142,7 @@ returns-in_err-write_next_line g c =
           (omega (arith, ap length is_line, short_in_front w c.lines.number c.in-Some.end has)) has.counted shown
           (subst (λ (f : OutputFormat). WritesLine (rule_for_format f) c.lines.number line
           (taken c.lines.writer, taken c.write_next_line.new.writer) (ending_of_fault e)) c.lines.invariant.format c.in_err-write_next_line.ensures.text));
-      reach = as_err r e (λ (q : Ending). ReadsTo read_only_world tt (left c.args.reader.now) (left c.next_line.new.reader) all
+      reach = as_err r e (λ (q : Ending). ReadsTo read_only_semantics tt (left c.args.reader.now) (left c.next_line.new.reader) all
           q) is
           (faulty_in_front before.3 (left c.args.reader.now) (left c.next_line.new.reader) w read all unknown_bytes
           failures_of
@@ -152,12 +152,12 @@ returns-in_err-write_next_line g c =
       end = on_err all r e is;
       reads = as_err r e (λ (q : Ending). Counts g.S.Source.failed (c.args.reader.now, c.next_line.new.reader)
           (read_fails q)) is
-          (counts_none _ _ _ (plays_unread read_only_world unknown_bytes failures_of c.lines.number tt tt line
+          (counts_none _ _ _ (plays_unread read_only_semantics unknown_bytes failures_of c.lines.number tt tt line
           (failed c.lines.writer, failed c.write_next_line.new.writer) (ending_of_fault e) shown)
           (◌∙◌ {b = g.S.Source.failed c.lines.reader} c.in_ok-end.ensures.reads c.lines.invariant.reads));
       writes = as_err r e (λ (q : Ending). Counts failed (c.args.writer.now, c.write_next_line.new.writer) (write_fails q)) is
           (counts_on (failed c.lines.writer) (failed c.args.writer.now) _ _ c.lines.invariant.writes
-          (plays_counts read_only_world unknown_bytes failures_of c.lines.number tt tt line
+          (plays_counts read_only_semantics unknown_bytes failures_of c.lines.number tt tt line
           (failed c.lines.writer, failed c.write_next_line.new.writer) (ending_of_fault e) shown));
     }
 
@@ -197,19 +197,19 @@ returns-in_err-write_next_line-2 g c =
           (subst (λ (f : OutputFormat). WritesLine (rule_for_format f) c.lines.number w
           (taken c.lines.writer, taken c.write_next_line-2.new.writer) (ending_of_fault e)) c.lines.invariant.format
           c.in_err-write_next_line-2.ensures.text));
-      reach = as_err r e (λ (q : Ending). ReadsTo read_only_world tt (left c.args.reader.now) (left c.next_line.new.reader) all
+      reach = as_err r e (λ (q : Ending). ReadsTo read_only_semantics tt (left c.args.reader.now) (left c.next_line.new.reader) all
           q) stopped
           (faulty_last before.3 (left c.args.reader.now) (left c.next_line.new.reader) window read all
           (fails_by e) c.in_err-write_next_line-2.ensures.own (omega (arith, small)) at.1);
       end = on_err all r e stopped;
       reads = as_err r e (λ (q : Ending). Counts g.S.Source.failed (c.args.reader.now, c.next_line.new.reader)
           (read_fails q)) stopped
-          (counts_none _ _ _ (plays_unread read_only_world unknown_bytes failures_of c.lines.number tt tt w
+          (counts_none _ _ _ (plays_unread read_only_semantics unknown_bytes failures_of c.lines.number tt tt w
           (failed c.lines.writer, failed c.write_next_line-2.new.writer) (ending_of_fault e) shown)
           (◌∙◌ {b = g.S.Source.failed c.lines.reader} c.in_ok-end.ensures.reads c.lines.invariant.reads));
       writes = as_err r e (λ (q : Ending). Counts failed (c.args.writer.now, c.write_next_line-2.new.writer) (write_fails q)) stopped
           (counts_on (failed c.lines.writer) (failed c.args.writer.now) _ _ c.lines.invariant.writes
-          (plays_counts read_only_world unknown_bytes failures_of c.lines.number tt tt w
+          (plays_counts read_only_semantics unknown_bytes failures_of c.lines.number tt tt w
           (failed c.lines.writer, failed c.write_next_line-2.new.writer) (ending_of_fault e) shown));
     }
 
