@@ -1,4 +1,4 @@
--- Conversions of the values of the code to those of the specification.
+-- Converts the code's types to the specification's types.
 use Rattle.std.specs.Prelude.{ℕ, List, pos, negsuc, ◌≡◌, max, min, Bool, true, false, Option, Some, None, ◌≤◌, length}
 use Rattle.std.specs.Prelude.{◌-◌, ◌++◌, take, drop, replicate}
 use Rattle.ctap_cbor.specs.Tree.{Int, Bytes, Tree, Plain, Map, no_pairs, pair}

@@ -1,7 +1,7 @@
 //! The authenticator of CTAP 2.1, section 6, as a state machine that handles one request or reply at a time. Nothing
 //! here allocates.
 //!
-//! An example, which the gate runs (`crates/page_tests/src/authn_core_page.rt`):
+//! An example, which the gate runs (`crates/doc_examples/src/authn_core_example.rt`):
 //!
 //! ```text
 //! let mut core = Core::<Store<4>, 4>::new(Config { aaguid: [0; 16] }, Store::new(), 0);

@@ -306,7 +306,7 @@ SavesInto capacity rows old new None = (length old < max_snapshot_len capacity) 
 
 -- ---- the numbers of snapshot errors
 
--- The number of a snapshot error, as the programs print it.
+-- The number of a snapshot error. Error messages contain 1, 2 or 3; a failed allocation has a message of its own.
 abbrev pub refusal_number : SnapshotFault → ℕ
 refusal_number NotSnapshot = 1
 refusal_number TooMany = 2

@@ -23,7 +23,7 @@ pub enum SnapshotFault {
 }
 
 impl SnapshotFault {
-    /// Returns the error's number, as the programs print it.
+    /// Returns the error's number. Error messages contain it, except 4.
     pub fn number(&self) -> u8
         ensures { result ≡ refusal_number self.now }
     {

@@ -1,6 +1,6 @@
 //! The credential table of an authenticator: its rows in order of creation, with several implementations.
 //!
-//! An example, which the gate runs (`crates/page_tests/src/cred_table_page.rt`):
+//! An example, which the gate runs (`crates/doc_examples/src/cred_table_example.rt`):
 //!
 //! ```text
 //! let mut table = Store::<4>::new();
@@ -10,7 +10,7 @@
 //!     discoverable: true,
 //!     ..Row::default()
 //! });
-//! let mut snapshot = Vec::new(rt.alloc());
+//! let mut snapshot = Vec::new(alloc);
 //! save(&table, &mut snapshot)?;
 //!
 //! let mut copy = Store::<4>::new();

@@ -1,4 +1,4 @@
-//! Decodes the parts of a snapshot, in place.
+//! Decodes the header and the rows of a snapshot directly from its bytes.
 
 ghost use Rattle.std.specs.Prelude.{◌≡◌, ◌-◌, ◌≤◌, ◌<◌, ◌^◌, pos, option_map, ⊤};
 ghost use Rattle.ctap_cbor.specs.Tree.{Int, Bytes, Flag};
@@ -140,7 +140,7 @@ fn count_of_item(item: Option<Item>) -> Option<u64>
 }
 
 /// Returns whether the rows of a version have user names, from an item that is a known version.
-fn version_of_item(item: Option<Item>) -> Option<bool>
+fn has_names_of_item(item: Option<Item>) -> Option<bool>
     ensures { result ≡ and_then has_names_in (option_map to_part item.entry) }
 {
     match item {
@@ -192,7 +192,7 @@ fn read_name(cursor: &mut Cursor, named: bool) -> Option<Name>
 fn read_version(cursor: &mut Cursor) -> Option<bool>
     ensures { ReadsMember (λ _. ⊤) (λ named. One (Int (pos (version named)))) 1 cursor.old cursor.new result }
 {
-    version_of_item(read_member(cursor, 2, 1))
+    has_names_of_item(read_member(cursor, 2, 1))
 }
 
 /// Reads the head of the array of entries. Returns the number of entries.

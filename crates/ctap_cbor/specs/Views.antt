@@ -1,4 +1,4 @@
--- Borrowed items as values of the specification, without their addresses in memory.
+-- Converts the code's borrowed items to the specification's types, which contain no addresses in memory.
 use Rattle.std.specs.Prelude.{suc, true, false, None, Some, ◌≡◌, ℕ, List, ◌∷◌}
 use Rattle.std.specs.Prelude.{◌++◌, drop, Result, Ok, Err, IsOkAnd, ◌≤◌, length}
 use Rattle.ctap_cbor.specs.declared.{fault.Fault.Fault, fault.Kind.Kind, item.Item.Item}

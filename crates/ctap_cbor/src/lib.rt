@@ -10,7 +10,7 @@
 //! - [`decode_value`] and [`encode_value`] read and write a [`Value`], an owned tree.
 //! - [`laws`] states properties of the encoding itself, such as that no encoding is a prefix of another.
 //!
-//! An example, which the gate runs (`crates/page_tests/src/ctap_cbor_page.rt`):
+//! An example, which the gate runs (`crates/doc_examples/src/ctap_cbor_example.rt`):
 //!
 //! ```text
 //! /// `{1: "usb", 2: [true]}`
@@ -31,8 +31,8 @@
 //! sink.flag(true);
 //! assert!(rt; buffer == [0x81, 0xf5]);
 //!
-//! let value = decode_value(rt.alloc(), MESSAGE)?;
-//! let mut copy = Vec::new(rt.alloc());
+//! let value = decode_value(alloc, MESSAGE)?;
+//! let mut copy = Vec::new(alloc);
 //! encode_value(&value, &mut copy)?;
 //! assert!(rt; copy.as_slice() == MESSAGE);
 //! ```

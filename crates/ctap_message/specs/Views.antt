@@ -1,4 +1,4 @@
--- The requests of the code as values of the specification, without their addresses in memory.
+-- Converts the code's requests to the specification's types, which contain no addresses in memory.
 use Rattle.std.specs.Prelude.{◌≡◌, ℕ, ◌≤◌, length, Option, Some, None, Result, Ok, Err}
 use Rattle.ctap_message.specs.declared.request.Request.{Request}
 use Rattle.ctap_message.specs.declared.status.Status.{Status}

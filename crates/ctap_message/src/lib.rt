@@ -1,7 +1,7 @@
 //! Parses the requests that a host sends to an authenticator, and encodes the responses (CTAP 2.1, section 6 and
 //! section 8, "Message Encoding").
 //!
-//! An example, which the gate runs (`crates/page_tests/src/ctap_message_page.rt`):
+//! An example, which the gate runs (`crates/doc_examples/src/ctap_message_example.rt`):
 //!
 //! ```text
 //! let (request, steps) = read_request(b"\x04");

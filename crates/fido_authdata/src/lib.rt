@@ -3,7 +3,7 @@
 //!
 //! This crate neither hashes nor signs: the caller passes the SHA-256 hash of the RP ID. Nothing allocates.
 //!
-//! An example, which the gate runs (`crates/page_tests/src/fido_authdata_page.rt`):
+//! An example, which the gate runs (`crates/doc_examples/src/fido_authdata_example.rt`):
 //!
 //! ```text
 //! let data = AuthData::assertion(&[0xa3; 32], true, 1);

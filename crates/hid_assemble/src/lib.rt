@@ -1,7 +1,7 @@
 //! The channels of CTAPHID and the reassembly of messages: the reply table, which determines the verdict on each
 //! packet, and the time-out of incomplete messages (CTAP 2.1, sections 11.2.4 and 11.2.5). Nothing here allocates.
 //!
-//! An example, which the gate runs (`crates/page_tests/src/hid_assemble_page.rt`):
+//! An example, which the gate runs (`crates/doc_examples/src/hid_assemble_example.rt`):
 //!
 //! ```text
 //! let mut assembler = Assembler::with_given(1);

@@ -1,7 +1,7 @@
 //! CTAPHID packets of 64 bytes, the packets that carry a message, and a queue of packets to send
 //! (CTAP 2.1, section 11.2.4, "Message and packet structure"). Nothing here allocates.
 //!
-//! An example, which the gate runs (`crates/page_tests/src/hid_packet_page.rt`):
+//! An example, which the gate runs (`crates/doc_examples/src/hid_packet_example.rt`):
 //!
 //! ```text
 //! let mut outbox = Outbox::new();

@@ -7,7 +7,7 @@ use Rattle.cred_table.specs.Snapshots.{IsSnapshot, Loads, Refuses as RefusesSnap
 use Rattle.token_session.specs.Meters.{SessionState}
 use Rattle.hidlog.specs.Program.{RunResult, alone, reasoned, FaultText, of_log, WritesFault, to_run_result}
 use Rattle.hidlog.specs.Program.{cannot_read, cannot_write, no_memory, refused, cannot_read_log, writing_failed}
-use Rattle.hidlog.specs.Program.{Ended, IsWrittenTo, IsWhole, WritesAtMostOne, FlushesPending, is_help}
+use Rattle.hidlog.specs.Program.{PlayResult, IsWrittenTo, IsWhole, WritesAtMostOne, FlushesPending, is_help}
 use Rattle.std.specs.Io.KnownBytes.{Consumes}
 use Rattle.session_log.specs.Check.{first_comparison, check_history}
 use Rattle.session_log.specs.Replay.{Ending, Done, Refused, Unread, Unwritten, ending_of_fault, fault_of, play_all}
@@ -24,7 +24,7 @@ use Rattle.clap.specs.declared.error.kind.ErrorKind.TheVariants.{OutOfMemory}
 use Rattle.authn_core.specs.Turn.{Start}
 use Rattle.session_log.specs.declared.command.ReplayMode.{ReplayMode}
 use Rattle.session_log.specs.declared.command.ReplayMode.TheVariants.{Check, Live}
-use Rattle.session_show.specs.Shown.{IsLineText, Shows, read_only_world}
+use Rattle.session_show.specs.Shown.{IsLineText, Shows, read_only_semantics}
 use Rattle.session_show.specs.declared.detail.Detail.{Detail}
 use Rattle.session_show.specs.declared.detail.Detail.TheVariants.{Explained, Fixed}
 use Rattle.hidlog.specs.declared.args.ShowFormat.{ShowFormat}
@@ -145,10 +145,10 @@ logs_or_input (log ∷ logs) = log ∷ logs
 -- was read, and no read or write failed. A pair is a source or a target before and after.
 abbrev pub ShowsIn : {I O : Type 0} → ShowFormat → Detail → (left : I → Option (List ℕ)) → (unread : I → ℕ) →
     (ended : I → Bool)
-    → (taken : O → Option (List ℕ)) → (unput : O → ℕ) → Ended → (I × I) → (O × O) → Type 0
+    → (taken : O → Option (List ℕ)) → (unput : O → ℕ) → PlayResult → (I × I) → (O × O) → Type 0
 ShowsIn Lines detail left unread ended taken unput answer input output =
     Shows (IsLineText detail) (left input.0, left input.1) (taken output.0, taken output.1) (ending_of answer)
-    × ReadsTo read_only_world tt (left input.0) (left input.1) (IsAtEndOfInput left ended input.1) (ending_of answer)
+    × ReadsTo read_only_semantics tt (left input.0) (left input.1) (IsAtEndOfInput left ended input.1) (ending_of answer)
     × IsCounted left unread ended unput answer input output
 ShowsIn _ detail left unread ended taken unput answer input output =
     OnOk answer (IsWhole left ended unread unput input output)
@@ -178,7 +178,7 @@ module _ {D I O F : Type 0} (model : Model D I O F) where
   -- were then saved at the path, if any.
   abbrev pub RunsOn : ReplayMode → Option (List ℕ) → RunResult → (old new : Host D I O F) → Start → Type 0
   RunsOn command save came old new start =
-      (answer : Ended) × (whole : Ended) × (s : SessionState) × (put : O)
+      (answer : PlayResult) × (whole : PlayResult) × (s : SessionState) × (put : O)
       × PlaysLog command start [] model.left model.unread model.ended model.taken model.unput answer s
       (old.input, new.input) (old.output, put)
       × FlushesPending model.taken model.unput model.waits answer (put, new.output) whole
@@ -197,7 +197,7 @@ module _ {D I O F : Type 0} (model : Model D I O F) where
 
   -- The log was shown, and then the buffered output was written.
   abbrev pub ShowsLog : ShowFormat → Detail → RunResult → (old new : Host D I O F) → Type 0
-  ShowsLog form detail came old new = (answer : Ended) × (whole : Ended) × (put : O) × (came ≡ to_run_result whole)
+  ShowsLog form detail came old new = (answer : PlayResult) × (whole : PlayResult) × (put : O) × (came ≡ to_run_result whole)
       × ShowsIn form detail model.left model.unread model.ended model.taken model.unput answer (old.input, new.input)
       (old.output, put)
       × FlushesPending model.taken model.unput model.waits answer (put, new.output) whole
@@ -259,7 +259,7 @@ module _ {D I O F : Type 0} (model : Model D I O F) where
 
   -- The help was written; or writing failed, and the failure was reported.
   abbrev pub WritesHelp : Status → (old new : Host D I O F) → Type 0
-  WritesHelp status old new = (text : List ℕ) × (answer : Ended) × (ended : Ended) × (put : O)
+  WritesHelp status old new = (text : List ℕ) × (answer : PlayResult) × (ended : PlayResult) × (put : O)
       × WritesLogLine model.taken model.unput (old.output, put) text answer
       × FlushesPending model.taken model.unput model.waits answer (put, new.output) ended
       × MatchResult ended (λ _. (status ≡ Ok tt) × (new ≡ record old { output = new.output }))

@@ -103,13 +103,13 @@ IsWhole left ended unread unput input output = IsAtEndOfInput left ended input.1
     × (unread input.1 ≡ unread input.0) × (unput output.1 ≡ unput output.0)
 
 -- The result of playing a log: success, or an error of the log.
-abbrev pub Ended : Type 0
-Ended = Result (Unit {0}) LogFault
+abbrev pub PlayResult : Type 0
+PlayResult = Result (Unit {0}) LogFault
 
 -- After playing a log with the result `answer`, the buffered output was written, and the result `ended` is the same; or
 -- writing failed, and `ended` is the error of a failed write. If a write failed before or the count of failures is at
 -- its maximum, nothing is written.
-abbrev pub FlushesPending : {O : Type 0} → (O → Option (List ℕ)) → (O → ℕ) → (waits : O → List ℕ) → Ended → (O × O) → Ended →
+abbrev pub FlushesPending : {O : Type 0} → (O → Option (List ℕ)) → (O → ℕ) → (waits : O → List ℕ) → PlayResult → (O × O) → PlayResult →
     Type 0
 FlushesPending taken failed waits answer output ended =
     ((ended ≡ answer) × Keeps (taken output.0) (taken output.1) × (failed output.1 ≡ failed output.0)
@@ -198,7 +198,7 @@ to_result (Ok x) = Ok tt
 to_result (Err fault) = Err (to_fault_text fault)
 
 -- Converts the result of playing a log to a `RunResult`.
-abbrev pub to_run_result : Ended → RunResult
+abbrev pub to_run_result : PlayResult → RunResult
 to_run_result (Ok x) = Ok tt
 to_run_result (Err fault) = Err of_log
 

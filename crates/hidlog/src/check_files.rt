@@ -16,14 +16,14 @@ use crate::files::Files;
 use crate::host::{Host, Modeled};
 use crate::json_report::ProgramFaultObject;
 use crate::logs::{LogState, Logs};
-use crate::notes::{CheckEnd, Notes};
+use crate::notes::{EndState, Notes};
 use crate::parse_hint::first_parse_hint;
 use crate::process::{WRITING_FAILED, write_message};
 use crate::report_options::{FaultLine, ReportOptions};
 use crate::snapshots::load;
 use crate::split::Pieces;
 use session_log::{LogFault, ReplayMode, Target, ToWrite};
-use session_show::{TextBuf, Written};
+use session_show::{TextBuf, WriteText};
 
 /// Maximum length of a log that is read a second time to compare the bytes to sign.
 const MAX_REREAD_LEN: u64 = 1 << 26;
@@ -35,7 +35,7 @@ struct SameLog<'a> {
     text: &'a [u8],
 }
 
-impl Written for SameLog<'_> {
+impl WriteText for SameLog<'_> {
     fn write(&self, buf: &mut TextBuf) {
         if !self.options.is_json {
             self.options.begin_line(buf);
@@ -85,7 +85,7 @@ pub fn report_note<D: Files, L: Logs, E: Target>(
     files: &D,
     options: &ReportOptions<'_>,
     input: &mut L,
-    ending: &CheckEnd,
+    ending: &EndState,
     faults: &mut E,
 )
     ensures { input.new ≡ input.old }
@@ -118,7 +118,7 @@ impl<D: Files, L: Logs, O: Output, E: Target> Host<D, L, O, E> {
         options: &ReportOptions<'a>,
         path: &'a str,
         same: &mut Vec<u8>,
-    ) -> Result<CheckEnd, ProgramFault<'a>>
+    ) -> Result<EndState, ProgramFault<'a>>
         requires { L.failed self.old.input < 2 ^ 64 - 1 }
         ensures only { self.new ≡ record self.old { input = self.new.input } }
         ensures same { OnOk result (IsSameAt ⟦<Self as Modeled>⟧.model (to_path options.now.load) self.old.files path.now
@@ -143,7 +143,7 @@ impl<D: Files, L: Logs, O: Output, E: Target> Host<D, L, O, E> {
         }
         let mut writer = ToWrite::new(&mut *same);
         match ReplayMode::Check.play(session, input, &mut writer) {
-            Ok(()) => Ok(CheckEnd::of(session)),
+            Ok(()) => Ok(EndState::of(session)),
             Err(fault) => Err(ProgramFault::Log(fault)),
         }
     }
@@ -152,7 +152,7 @@ impl<D: Files, L: Logs, O: Output, E: Target> Host<D, L, O, E> {
     fn report_equal(
         &mut self,
         options: &ReportOptions<'_>,
-        ending: &CheckEnd,
+        ending: &EndState,
         text: &[u8],
     ) -> Result<(), u8>
         ensures status { IfErr result (λ code. code ≡ 1) }

@@ -14,7 +14,7 @@ use crate::fault::ProgramFault;
 use crate::files::Files;
 use crate::host::{Host, Modeled};
 use crate::logs::Logs;
-use crate::notes::CheckEnd;
+use crate::notes::EndState;
 use crate::snapshots::{check_writable, load, lock_snapshot, save_rows};
 use session_log::{CAPACITY, ReplayMode, Target};
 use token_session::Session;
@@ -70,7 +70,7 @@ impl<D: Files, L: Logs, O: Output, E: Target> Host<D, L, O, E> {
         play: &Play<'a>,
         log: Option<&str>,
         is_held: bool,
-    ) -> Result<CheckEnd, ProgramFault<'a>>
+    ) -> Result<EndState, ProgramFault<'a>>
         requires { CanFail ⟦<Self as Modeled>⟧.model self.old }
         ensures { StartsFromSnapshot ⟦<Self as Modeled>⟧.model (to_path play.now.load)
             (λ start. ((self.new ≡ self.old) × FailsToSave D.unwritable self.old.files
@@ -99,14 +99,14 @@ impl<D: Files, L: Logs, O: Output, E: Target> Host<D, L, O, E> {
             is_held,
             session,
         ) {
-            Ok(()) => Ok(CheckEnd::of(session)),
+            Ok(()) => Ok(EndState::of(session)),
             Err(fault) => Err(fault),
         }
     }
 
     /// Plays the log on a new session, then saves the credentials if there is a path for them, and returns how the log
     /// ended. If the credentials are loaded from and saved to the same path, the snapshot is locked meanwhile.
-    pub fn play_log<'a>(&mut self, play: &Play<'a>) -> Result<CheckEnd, ProgramFault<'a>>
+    pub fn play_log<'a>(&mut self, play: &Play<'a>) -> Result<EndState, ProgramFault<'a>>
         requires { CanFail ⟦<Self as Modeled>⟧.model self.old }
         ensures { RunsCommand ⟦<Self as Modeled>⟧.model play.now.command (to_path play.now.load) (to_path play.now.save)
             (to_path play.now.log) (to_result result) self.old self.new }

@@ -11,7 +11,7 @@ use crate::report_options::{FaultLine, ReportOptions};
 use crate::snapshots::load;
 use crate::terminal_output::{Style, StyledLines};
 use session_log::{CAPACITY, LogFault, Source, Target, ToWrite};
-use session_show::{Comparison, Difference, TextBuf, Written};
+use session_show::{Comparison, Difference, TextBuf, WriteText};
 use std::alloc::Global;
 use token_session::Session;
 
@@ -173,7 +173,7 @@ struct DifferenceCount<'a> {
     ahead: &'a [u8],
 }
 
-impl Written for DifferenceCount<'_> {
+impl WriteText for DifferenceCount<'_> {
     fn write(&self, buf: &mut TextBuf) {
         let options = self.options;
         if options.is_json {

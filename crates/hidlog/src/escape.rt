@@ -1,6 +1,6 @@
 //! Untrusted texts and system errors in the program's messages.
 use crate::split::Pieces;
-use session_show::{TextBuf, Written, write_escaped};
+use session_show::{TextBuf, WriteText, write_escaped};
 use std::fmt::{Display, Write};
 use std::io::Error;
 
@@ -8,7 +8,7 @@ use std::io::Error;
 #[derive(Clone, Copy)]
 pub struct EscapedText<'a>(pub &'a [u8]);
 
-impl Written for EscapedText<'_> {
+impl WriteText for EscapedText<'_> {
     fn write(&self, buf: &mut TextBuf) {
         let lines = Pieces {
             rest: self.0,
@@ -33,7 +33,7 @@ pub struct StreamFailure<'a> {
     pub error: &'a Error,
 }
 
-impl Written for StreamFailure<'_> {
+impl WriteText for StreamFailure<'_> {
     fn write(&self, buf: &mut TextBuf) {
         buf.text("  ");
         if let Some(name) = self.name {

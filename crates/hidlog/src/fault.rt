@@ -5,7 +5,7 @@ use crate::escape::write_display;
 use crate::files::{COPY_SUFFIX, DAMAGED_REASON, LOCKED_REASON, SaveError};
 use cred_table::SnapshotFault;
 use session_log::{CAPACITY, LogFault};
-use session_show::{TextBuf, Written, write_escaped};
+use session_show::{TextBuf, WriteText, write_escaped};
 use std::io::{self, ErrorKind};
 
 /// An error that ended the processing of a log, with the path that it concerns.
@@ -86,7 +86,7 @@ pub enum Notice {
     Damaged,
 }
 
-impl Written for Notice {
+impl WriteText for Notice {
     fn write(&self, buf: &mut TextBuf) {
         buf.text("  ");
         buf.text(match self {
@@ -138,7 +138,7 @@ fn write_copy_path(buf: &mut TextBuf, path: &[u8], number: u64) {
     }
 }
 
-impl Written for ErrorDetail<'_> {
+impl WriteText for ErrorDetail<'_> {
     fn write(&self, buf: &mut TextBuf) {
         let path = self.path.as_bytes();
         buf.text("  ");

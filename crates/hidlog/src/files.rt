@@ -24,7 +24,7 @@ pub enum SaveError {
 /// Access to files by path.
 pub trait Files {
     /// A lock on a file, against other programs that load the file and then save to it.
-    type Held: Drop;
+    type Lock: Drop;
 
     /// The file at a path has these bytes.
     ghost holds: { Self → List ℕ → List ℕ → Type 0 };
@@ -48,7 +48,7 @@ pub trait Files {
 
     /// Locks the file at `path` if it is the same as that at `save`, until the result is dropped. Fails if another
     /// program holds the lock.
-    fn lock_input(&self, path: &str, save: &str) -> io::Result<Option<Self::Held>>
+    fn lock_input(&self, path: &str, save: &str) -> io::Result<Option<Self::Lock>>
         ensures { IfErr result (λ _. unreadable self.now path.now) };
 
     /// Checks whether a file can be written, as far as possible without writing to it. Fails if it is the log, or the
@@ -324,7 +324,7 @@ impl<D: Disk> Files for HostFiles<D> {
 
     ghost unwritable = { λ _ _. Unit {0} };
 
-    type Held = D::File;
+    type Lock = D::File;
 
     fn lock_input(&self, path: &str, save: &str) -> io::Result<Option<D::File>> {
         if !self.0.is_same(path, save) {

@@ -9,7 +9,7 @@ use memchr::memmem;
 use session_show::status::{
     CREDENTIAL_EXCLUDED, KEY_STORE_FULL, NO_CREDENTIALS, OK, OPERATION_DENIED,
 };
-use session_show::{AwaitedReply, Difference, TextBuf, Transaction, Written};
+use session_show::{AwaitedReply, Difference, TextBuf, Transaction, WriteText};
 
 /// Commands that neither create nor delete credentials.
 const READ_ONLY_COMMANDS: [&str; 6] = [
@@ -121,7 +121,7 @@ impl Finding<'_> {
     }
 }
 
-impl Written for Finding<'_> {
+impl WriteText for Finding<'_> {
     /// Writes the report: the transaction, the packets with their messages, and the first difference between them.
     fn write(&self, buf: &mut TextBuf) {
         let options = self.options;

@@ -5,7 +5,7 @@ use crate::fault::ProgramFault;
 use crate::finding::Finding;
 use crate::report_options::ReportOptions;
 use session_log::ToWrite;
-use session_show::{TextBuf, Written, put_json_fault, write_hex, write_string, write_text};
+use session_show::{TextBuf, WriteText, put_json_fault, write_hex, write_string, write_text};
 
 /// The beginning of an error's JSON object.
 const FAULT_OBJECT_START: &[u8] = b"{\"kind\":\"fault\"";
@@ -72,7 +72,7 @@ pub struct ProgramFaultObject<'a> {
     pub fault: &'a ProgramFault<'a>,
 }
 
-impl Written for ProgramFaultObject<'_> {
+impl WriteText for ProgramFaultObject<'_> {
     fn write(&self, buf: &mut TextBuf) {
         self.options.begin_object(buf, "fault");
         if let ProgramFault::Log(fault) = self.fault {

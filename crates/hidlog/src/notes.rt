@@ -2,12 +2,12 @@
 use crate::report_options::ReportOptions;
 use crate::source_stats::SourceStats;
 use session_log::CAPACITY;
-use session_show::{AwaitedReply, SignedBytesMismatch, TextBuf, Written};
+use session_show::{AwaitedReply, SignedBytesMismatch, TextBuf, WriteText};
 use token_session::Session;
 
 /// The session's state at the end of a log.
 #[derive(Clone, Copy)]
-pub struct CheckEnd {
+pub struct EndState {
     /// The reply that the key needs from its caller.
     awaited: Option<AwaitedReply>,
     /// Number of bytes of the open message that were received.
@@ -16,12 +16,12 @@ pub struct CheckEnd {
     pub has_served: bool,
 }
 
-impl CheckEnd {
+impl EndState {
     /// Returns the state of a session at the end of a log.
     pub fn of(session: &Session<CAPACITY>) -> Self {
         let need = session.need();
         let awaited = AwaitedReply::of(&need);
-        CheckEnd {
+        EndState {
             awaited,
             held: session.held(),
             has_served: session.meters().requests > 0,
@@ -55,7 +55,7 @@ pub struct NoteText<'a> {
     pub remark: Note,
 }
 
-impl Written for NoteText<'_> {
+impl WriteText for NoteText<'_> {
     fn write(&self, buf: &mut TextBuf) {
         if self.options.is_json {
             self.options.begin_object(buf, "note");
@@ -90,10 +90,10 @@ impl Written for NoteText<'_> {
 pub struct Notes<'a> {
     pub options: &'a ReportOptions<'a>,
     pub seen: &'a SourceStats,
-    pub ending: &'a CheckEnd,
+    pub ending: &'a EndState,
 }
 
-impl Written for Notes<'_> {
+impl WriteText for Notes<'_> {
     fn write(&self, buf: &mut TextBuf) {
         let options = self.options;
         let doubt = if self.seen.len == 0 {

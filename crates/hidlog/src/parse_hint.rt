@@ -1,7 +1,7 @@
 //! Explains why a line isn't a log line, with the bytes that were found and those that were expected.
 use crate::split::{DIGITS, Pieces, count_leading, find_byte, skip_front};
 use session_log::parse_line;
-use session_show::{TextBuf, Written};
+use session_show::{TextBuf, WriteText};
 
 /// Maximum length of a log line in bytes.
 const MAX_LINE_LEN: usize = 255;
@@ -237,7 +237,7 @@ impl ParseHint<'_> {
     }
 }
 
-impl Written for ParseHint<'_> {
+impl WriteText for ParseHint<'_> {
     fn write(&self, buf: &mut TextBuf) {
         if let Some(text) = self.other_file() {
             buf.text(text);

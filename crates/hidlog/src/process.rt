@@ -4,7 +4,7 @@ ghost use Rattle.hidlog.specs.Program.{IsWrittenTo, IsReported, no_memory as no_
 
 use crate::fault::ErrorDetail;
 use session_log::{Failed, Target, put_all};
-use session_show::{Detail, TextBuf, Written, put_chunks};
+use session_show::{Detail, TextBuf, WriteText, put_chunks};
 use std::env;
 use std::io::ErrorKind;
 
@@ -20,7 +20,7 @@ pub fn write_error_text<E: Target>(faults: &mut E, text: &[u8])
 }
 
 /// Writes a message to a stream. On failure, only the beginning of the message may have been written.
-pub fn put_message<E: Target, W: Written>(stream: &mut E, what: &W) -> Result<(), Failed>
+pub fn put_message<E: Target, W: WriteText>(stream: &mut E, what: &W) -> Result<(), Failed>
     requires { E.failed stream.old < 2 ^ 64 - 1 }
     ensures written { (text : List ℕ) × IsWrittenTo E.taken E.failed (stream.old, stream.new) text }
     ensures complete { OnOk result (E.failed stream.new ≡ E.failed stream.old) }
@@ -31,7 +31,7 @@ pub fn put_message<E: Target, W: Written>(stream: &mut E, what: &W) -> Result<()
 
 /// Writes a message to a stream, unless a write to the stream failed before. Returns whether the whole message was
 /// written.
-pub fn write_message<E: Target, W: Written>(stream: &mut E, what: &W) -> bool
+pub fn write_message<E: Target, W: WriteText>(stream: &mut E, what: &W) -> bool
     ensures written { E.failed stream.old ≡ 0 → (text : List ℕ) × IsWrittenTo E.taken E.failed (stream.old, stream.new) text }
     ensures kept { 0 < E.failed stream.old → stream.new ≡ stream.old }
     ensures complete { IsTrue result ↔ (E.failed stream.new ≡ 0) }

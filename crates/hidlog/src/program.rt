@@ -18,7 +18,7 @@ use crate::fault::{Notice, ProgramFault};
 use crate::files::Files;
 use crate::host::{Host, Modeled};
 use crate::logs::Logs;
-use crate::notes::CheckEnd;
+use crate::notes::EndState;
 use crate::process::{WRITING_FAILED, no_memory, put_message, write_error_text};
 use crate::report_options::ReportOptions;
 use clap::Error;
@@ -38,7 +38,7 @@ pub struct RunOutcome<'a> {
     /// The message about an error outside the log, if error messages aren't explained.
     pub notice: Option<Notice>,
     /// The state of the session at the end of a log without errors.
-    pub ending: Option<CheckEnd>,
+    pub ending: Option<EndState>,
     /// How the differences are reported, if the log was checked.
     pub options: Option<ReportOptions<'a>>,
 }

@@ -1,7 +1,7 @@
 //! How findings in a log are reported.
 use crate::escape::write_display;
 use session_log::LogFault;
-use session_show::{TextBuf, Written, write_escaped, write_string};
+use session_show::{TextBuf, WriteText, write_escaped, write_string};
 use std::alloc::Global;
 
 /// How findings in a log are reported.
@@ -51,7 +51,7 @@ pub struct FaultLine<'a> {
     pub fault: LogFault,
 }
 
-impl Written for FaultLine<'_> {
+impl WriteText for FaultLine<'_> {
     fn write(&self, buf: &mut TextBuf) {
         self.options.begin_line(buf);
         write_display(buf, &self.fault);

@@ -53,7 +53,7 @@ pub fn lock_snapshot<'a, D: Files>(
     files: &D,
     path: Option<&'a str>,
     save: Option<&str>,
-) -> Result<Option<D::Held>, ProgramFault<'a>>
+) -> Result<Option<D::Lock>, ProgramFault<'a>>
     ensures { IfErr result (λ fault. FailsToOpen D.holds D.unreadable files.now (to_path path.entry) (Err (to_fault_text fault))) }
 {
     let (Some(path), Some(save)) = (path, save) else {

@@ -5,7 +5,7 @@ ghost use Rattle.session_show.specs.Shown.{Writes};
 use crate::split::{DIGITS, Pieces, count_leading, skip_front};
 use memchr::{memmem, memrchr};
 use session_log::{Failed, Target, put_all};
-use session_show::{Detail, TextBuf, Written, put_chunks};
+use session_show::{Detail, TextBuf, WriteText, put_chunks};
 
 const PLAIN: &[u8] = b"\x1b[0m";
 
@@ -83,7 +83,7 @@ pub struct StyledLines<'a> {
     pub style: &'a Style,
 }
 
-impl Written for StyledLines<'_> {
+impl WriteText for StyledLines<'_> {
     fn write(&self, buf: &mut TextBuf) {
         let style = self.style;
         let lines = Pieces {

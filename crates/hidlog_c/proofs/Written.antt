@@ -22,7 +22,7 @@ use Rattle.session_log.specs.Replay.{ReadsUpToEnding, IsFaultOfLinesRead, PlaysW
 use Rattle.cred_table.specs.declared.row.Row.{Row}
 use Rattle.session_log.specs.Check.{Compared, first_comparison, check_history}
 use Rattle.session_log.specs.Command.{IsCounted, PlaysLog}
-use Rattle.session_log.specs.World.{LineSemantics}
+use Rattle.session_log.specs.Semantics.{LineSemantics}
 use Rattle.session_log.specs.Lines.{IsAtEndOfInput, ReadsAndWrites}
 use Rattle.session_log.specs.Replay.{history, live_history, quiet_history}
 use Rattle.session_log.specs.declared.command.ReplayMode.TheVariants.{Check, Live, Quiet, Replay}
@@ -102,12 +102,12 @@ abbrev taken : BufferTarget → Option (List ℕ)
 taken writer = Some (writer.buffer.ghost_name ∷ take writer.len writer.buffer.now)
 
 -- that all was read, in other words
-module _ {S : Type 0} (world : LineSemantics S) (s : S) (bytes : List ℕ) (X Y : Type 0) (so : X → Y) where
-  shown_so : (n : ℕ) (f : LogFault) → IsFaultOfLinesRead world s bytes X n f → IsFaultOfLinesRead world s bytes Y n f
+module _ {S : Type 0} (semantics : LineSemantics S) (s : S) (bytes : List ℕ) (X Y : Type 0) (so : X → Y) where
+  shown_so : (n : ℕ) (f : LogFault) → IsFaultOfLinesRead semantics s bytes X n f → IsFaultOfLinesRead semantics s bytes Y n f
   shown_so n f (inl h) = inl h
   shown_so n f (inr h) = inr (so h)
 
-  reaches_so : (f : LogFault) → ReadsUpToFault world s bytes X f → ReadsUpToFault world s bytes Y f
+  reaches_so : (f : LogFault) → ReadsUpToFault semantics s bytes X f → ReadsUpToFault semantics s bytes Y f
   reaches_so (BadLine n) h = (h.0, shown_so n (BadLine n) h.1)
   reaches_so (Differs l k) (inl h) = inl (h.0, h.1, shown_so h.0 (Differs l k) h.2)
   reaches_so (Differs l k) (inr h) = inr (h.0, so h.1)
@@ -115,14 +115,14 @@ module _ {S : Type 0} (world : LineSemantics S) (s : S) (bytes : List ℕ) (X Y 
   reaches_so f h = h
 
 -- a known log was read to here
-finds : {S : Type 0} (world : LineSemantics S) (s : S) (log bytes rest : List ℕ) (all : Type 0) (ending : Ending)
-    → log ≡ bytes ++ rest → (all → rest ≡ []) → ReadsTo world s (Some log) (Some rest) all ending
-    → ReadsUpToEnding world s bytes (rest ≡ []) ending
-finds world s log bytes rest all (Refused f) e so h =
+finds : {S : Type 0} (semantics : LineSemantics S) (s : S) (log bytes rest : List ℕ) (all : Type 0) (ending : Ending)
+    → log ≡ bytes ++ rest → (all → rest ≡ []) → ReadsTo semantics s (Some log) (Some rest) all ending
+    → ReadsUpToEnding semantics s bytes (rest ≡ []) ending
+finds semantics s log bytes rest all (Refused f) e so h =
     let same = append_cancel_right h.0 bytes rest (sym h.1 ∙ e) in
-    reaches_so world s bytes all (rest ≡ []) so f (subst (λ (b : List ℕ). ReadsUpToFault world s b all f) same h.2)
-finds world s log bytes rest all Done e so h = tt
-finds world s log bytes rest all ending e so h = tt
+    reaches_so semantics s bytes all (rest ≡ []) so f (subst (λ (b : List ℕ). ReadsUpToFault semantics s b all f) same h.2)
+finds semantics s log bytes rest all Done e so h = tt
+finds semantics s log bytes rest all ending e so h = tt
 
 on_all : {A X Y : Type 0} (r : Result A LogFault) → (X → Y) → OnOk r X → OnOk r Y
 on_all (Ok x) so h = so h
@@ -131,18 +131,18 @@ on_all (Err f) so h = tt
 -- What a call promises of a log over a slice and of a lent buffer, as one that hands both in sees it, where Q holds of
 -- the
 -- bytes that were read and of the text. A pair is the reader before and after the call, or the writer.
-pub written : {S : Type 0} (world : LineSemantics S) (s : S) (answer : Result (Unit {0}) LogFault) (log : List ℕ)
+pub written : {S : Type 0} (semantics : LineSemantics S) (s : S) (answer : Result (Unit {0}) LogFault) (log : List ℕ)
     (reader : SliceIn × SliceIn) (writer : BufferTarget × BufferTarget) (Q : List ℕ → List ℕ → Ending → Type 0) (P : List ℕ → List ℕ
     → List ℕ → Ending → Type 0) → ((bytes rest text : List ℕ) → Q bytes text (ending_of answer)
-    → ReadsUpToEnding world s bytes (rest ≡ []) (ending_of answer) → P bytes rest text (ending_of answer))
+    → ReadsUpToEnding semantics s bytes (rest ≡ []) (ending_of answer) → P bytes rest text (ending_of answer))
     → Some reader.0.rest.now ≡ Some log → take writer.0.len writer.0.buffer.now ≡ []
     → ReadsAndWrites (left reader.0) (left reader.1) (taken writer.0) (taken writer.1) (λ bytes text. Q bytes text
-    (ending_of answer)) → ReadsTo world s (left reader.0) (left reader.1) (IsAtEndOfInput left ended reader.1)
+    (ending_of answer)) → ReadsTo semantics s (left reader.0) (left reader.1) (IsAtEndOfInput left ended reader.1)
     (ending_of answer) → OnOk answer (IsAtEndOfInput left ended reader.1) → 0 ≡
     (if read_fails (ending_of answer) then 0 + 1 else 0) → writer.1.failures ≡
     (if write_fails (ending_of answer) then writer.0.failures + 1 else writer.0.failures)
     → IsWritten log writer.1.buffer.now writer.1.len answer P
-written world s answer log reader writer Q P so given none (bytes, text, reads, writes, q) reach whole unfailed counted
+written semantics s answer log reader writer Q P so given none (bytes, text, reads, writes, q) reach whole unfailed counted
     =
     let first_comparison = reader.0.rest.now in
     let rest = reader.1.rest.now in
@@ -158,17 +158,17 @@ written world s answer log reader writer Q P so given none (bytes, text, reads, 
       full = λ fails. writer.1.full
           (failed_once (write_fails (ending_of answer)) writer.0.failures writer.1.failures counted fails);
       does = subst (λ t. P bytes rest t (ending_of answer)) (sym is)
-          (so bytes rest text q (finds world s first_comparison bytes rest _ (ending_of answer) reads (λ all. all.1) reach));
+          (so bytes rest text q (finds semantics s first_comparison bytes rest _ (ending_of answer) reads (λ all. all.1) reach));
     }
 
--- What follows from a log that was played in some world follows from what a command did.
+-- What follows from a log that was played in some semantics follows from what a command did.
 pub by_command : (command : ReplayMode) (rows : List Row) {I O : Type 0} (left : I → Option (List ℕ)) (unread : I → ℕ)
     (ended : I → Bool) (taken : O → Option (List ℕ)) (unwritten : O → ℕ) (answer : Result (Unit {0}) LogFault)
     (s : SessionState) (input : I × I) (output : O × O) (Q : (List ℕ → List ℕ → List ℕ → Ending → Type 0) → Type 0)
-    → ((S : Type 0) (world : LineSemantics S) (x later : S) → ReadsAndWrites (left input.0) (left input.1) (taken output.0)
-    (taken output.1) (λ bytes text. PlaysWholeLog world x later bytes text (ending_of answer))
-    → ReadsTo world x (left input.0) (left input.1) (IsAtEndOfInput left ended input.1) (ending_of answer)
-    → IsCounted left unread ended unwritten answer input output → Q (PlaysSliceIn world x)) → PlaysLog command
+    → ((S : Type 0) (semantics : LineSemantics S) (x later : S) → ReadsAndWrites (left input.0) (left input.1) (taken output.0)
+    (taken output.1) (λ bytes text. PlaysWholeLog semantics x later bytes text (ending_of answer))
+    → ReadsTo semantics x (left input.0) (left input.1) (IsAtEndOfInput left ended input.1) (ending_of answer)
+    → IsCounted left unread ended unwritten answer input output → Q (PlaysSliceIn semantics x)) → PlaysLog command
     (start_with rows) [] left unread ended taken unwritten answer s input output → Q (PlaysSlice command rows)
 by_command Replay rows left unread ended taken unwritten answer s input output Q so p =
     so (List Timed) (history (start_with rows)) [] p.0 p.2 p.3 p.4

@@ -12,13 +12,13 @@ use Rattle.cred_table.specs.declared.row.Row.{Row}
 use Rattle.session_log.specs.declared.command.ReplayMode.{ReplayMode}
 use Rattle.session_log.specs.declared.command.ReplayMode.TheVariants.{Check, Live, Quiet, Replay}
 use Rattle.session_log.specs.Check.{first_comparison, check_history}
-use Rattle.session_log.specs.World.{LineSemantics}
+use Rattle.session_log.specs.Semantics.{LineSemantics}
 use Rattle.session_log.specs.Replay.{ReadsUpToEnding, PlaysWholeLog, Ending, ending_of, read_fails, write_fails}
 use Rattle.session_log.specs.Replay.{history, live_history, quiet_history, Plays, Writes, live_machine}
 use Rattle.hidlog_c.specs.declared.capacity.TheConstants.{CAPACITY}
 use Rattle.hidlog_c.specs.Key.{start_with, DeviceState, no_causes}
 use Rattle.hidlog_c.specs.Begin.{IsSnapshotOrEmpty}
-use Rattle.session_show.specs.Shown.{IsLineText, IsTextUpTo, read_only_world}
+use Rattle.session_show.specs.Shown.{IsLineText, IsTextUpTo, read_only_semantics}
 use Rattle.session_show.specs.declared.detail.Detail.{Detail}
 use Rattle.session_show.specs.declared.detail.Detail.TheVariants.{Explained, Fixed}
 use Rattle.authn_core.specs.Turn.{Start}
@@ -63,8 +63,8 @@ refused f = record { status = 2; fault = refusal_number f; line = 0; packet = 0;
 -- Playing the log from state `x` ends with `ending`: it reads `bytes`, leaves `rest` unread, and writes `text`. The
 -- bytes after an invalid line have no effect on the result.
 abbrev pub PlaysSliceIn : {S : Type 0} → LineSemantics S → S → (bytes rest text : List ℕ) → Ending → Type 0
-PlaysSliceIn {S} world x bytes rest text ending = (later : S) × PlaysWholeLog world x later bytes text ending
-    × ReadsUpToEnding world x bytes (rest ≡ []) ending
+PlaysSliceIn {S} semantics x bytes rest text ending = (later : S) × PlaysWholeLog semantics x later bytes text ending
+    × ReadsUpToEnding semantics x bytes (rest ≡ []) ending
 
 -- Like `PlaysSliceIn`, for a command (replay, live, check or quiet) on a new session with these credentials.
 abbrev pub PlaysSlice : ReplayMode → List Row → (bytes rest text : List ℕ) → Ending → Type 0
@@ -109,8 +109,8 @@ detail_for false = Fixed
 -- the text shows the lines before it, and the bytes after it have no effect on the result.
 abbrev pub Shows : Detail → (bytes rest text : List ℕ) → Ending → Type 0
 Shows detail bytes rest text ending =
-    ((lines : List ℕ) × Plays read_only_world tt tt bytes lines ending × IsTextUpTo (IsLineText detail) lines text ending)
-    × ReadsUpToEnding read_only_world tt bytes (rest ≡ []) ending
+    ((lines : List ℕ) × Plays read_only_semantics tt tt bytes lines ending × IsTextUpTo (IsLineText detail) lines text ending)
+    × ReadsUpToEnding read_only_semantics tt bytes (rest ≡ []) ending
 
 -- The log was shown, and `outcome` is the corresponding C result.
 abbrev pub IsShown : Detail → (log out : List ℕ) → CResult → Type 0

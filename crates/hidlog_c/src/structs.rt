@@ -80,7 +80,7 @@ fn with_zeros<const N: usize>(bytes: &[u8]) -> [u8; N]
     kept
 }
 
-/// Returns a need that isn't a signature, with this number.
+/// Returns the C struct for a need of this kind, without bytes to sign.
 fn plain_need(kind: u32) -> CNeed
     ensures { result ≡ record { kind = kind; to_sign_len = 0; id = replicate 32 0; signed = replicate 196 0 } }
 {

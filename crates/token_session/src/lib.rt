@@ -1,7 +1,7 @@
 //! The transport and the authenticator together: a session handles one input at a time, and returns the packets to
 //! send.
 //!
-//! An example, which the gate runs (`crates/page_tests/src/token_session_page.rt`):
+//! An example, which the gate runs (`crates/doc_examples/src/token_session_example.rt`):
 //!
 //! ```text
 //! let mut key = Session::<8>::bare([0; 16], 0);

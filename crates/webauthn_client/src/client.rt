@@ -12,7 +12,7 @@ use crate::client_data::{Ceremony, ClientData};
 use crate::json::member;
 use crate::message::Message;
 use crate::number::unsigned_long;
-use crate::options::{Abilities, is_conditional, public_key};
+use crate::options::{Abilities, is_conditional, public_key_options};
 use crate::rejection::{DomError, Rejection, not_allowed, type_error};
 use crate::relying_party::{Origin, parse_origin};
 use crate::response::{Response, authentication_json, invalid_response, registration_json};
@@ -67,7 +67,7 @@ impl<'a> Client<'a> {
             return Err(type_error("", "the options are not valid JSON"));
         }
         let trimmed = options.trim_ascii();
-        let options = public_key(trimmed)?;
+        let options = public_key_options(trimmed)?;
         let Some(origin) = parse_origin(origin) else {
             return Err(type_error("origin", "must be an origin, such as https://example.com"));
         };

@@ -157,7 +157,9 @@ fn check_protection(
     if abilities.has_cred_protect {
         Ok(())
     } else {
-        Err(not_allowed("credProtect is enforced, but the key does not support it"))
+        Err(not_allowed(
+            "enforceCredentialProtectionPolicy is true, but the key does not support credProtect",
+        ))
     }
 }
 

@@ -209,7 +209,7 @@ pub fn is_verified(
 }
 
 /// Returns the options of a public key credential: either `given` itself, or its member `publicKey`.
-pub fn public_key(given: &[u8]) -> Result<&[u8], Rejection> {
+pub fn public_key_options(given: &[u8]) -> Result<&[u8], Rejection> {
     if kind_of(given) != Kind::Object {
         return Err(type_error("publicKey", "the options must be an object"));
     }

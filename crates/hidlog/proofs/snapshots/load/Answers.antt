@@ -1,5 +1,5 @@
 use Rattle.std.proofs.Common.{refl, sym, []}
-use Rattle.session_log.proofs.Worlds.{begins}
+use Rattle.session_log.proofs.SemanticsLaws.{begins}
 use Rattle.hidlog.proofs.snapshots.load.Goals as goal
 
 pub returns-in_default-clause-begins : goal.returns-in_default-clause-begins

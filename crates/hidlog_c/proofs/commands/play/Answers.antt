@@ -9,9 +9,9 @@ returns-clause-does c = λ rows stands.
     let after = c.play.new in
     by_command c.args.command rows _ _ _ _ _ c.play.result after.session _ _
     (IsWritten c.args.log.now after.writer.buffer.now after.writer.len c.play.result)
-    (λ S world x later moves reach counted.
-    written world x c.play.result c.args.log.now (c.new.result, after.reader) (c.args.writer.now, after.writer)
-    (PlaysWholeLog world x later)
-    (PlaysSliceIn world x) (λ bytes rest text made finds. (later, made, finds)) c.new.ensures.left (search rules) moves
+    (λ S semantics x later moves reach counted.
+    written semantics x c.play.result c.args.log.now (c.new.result, after.reader) (c.args.writer.now, after.writer)
+    (PlaysWholeLog semantics x later)
+    (PlaysSliceIn semantics x) (λ bytes rest text made finds. (later, made, finds)) c.new.ensures.left (search rules) moves
     reach
     counted.2 counted.0 counted.1) (c.play.ensures.plays (start_with rows) [] stands)

@@ -2,7 +2,7 @@ use Rattle.std.proofs.Common.{◌≡◌, refl, ap, sym, List, ℕ, [], ◌∷◌
 use Rattle.std.proofs.lemmas.{Bool.eqb-true, Bool.eqb-false, List.nil_from_length}
 use Rattle.std.specs.Prelude.{◌≢◌, Ok}
 use Rattle.cred_table.specs.{declared.row.Row.Row, Snapshots.Loads}
-use Rattle.session_log.proofs.Worlds.{begins}
+use Rattle.session_log.proofs.SemanticsLaws.{begins}
 use Rattle.hidlog_c.specs.{Begin.IsSnapshotOrEmpty, declared.capacity.TheConstants.CAPACITY}
 use Rattle.hidlog_c.proofs.session_start.open.Goals as goal
 

@@ -1,6 +1,6 @@
 use Rattle.std.proofs.Common.{ℕ, List, rules}
 use Rattle.session_log.specs.{Replay.Ending, Replay.Plays}
-use Rattle.session_show.specs.Shown.{IsLineText, IsTextUpTo, read_only_world}
+use Rattle.session_show.specs.Shown.{IsLineText, IsTextUpTo, read_only_semantics}
 use Rattle.session_show.specs.declared.detail.Detail.TheVariants.{Fixed}
 use Rattle.hidlog_c.proofs.Written.{written}
 use Rattle.hidlog_c.proofs.transactions.play_transactions.Goals as goal
@@ -9,9 +9,9 @@ pub returns-clause-shown : goal.returns-clause-shown
 returns-clause-shown c =
     let parsed = c.write_transactions.ensures in
     let Q : List ℕ → List ℕ → Ending → Type 0 =
-    λ bytes text ending. (lines : List ℕ) × Plays read_only_world tt tt bytes lines ending
+    λ bytes text ending. (lines : List ℕ) × Plays read_only_semantics tt tt bytes lines ending
     × IsTextUpTo (IsLineText Fixed) lines text ending in
-    written read_only_world tt c.write_transactions.result c.args.log.now (c.new.result, c.write_transactions.new.reader)
+    written read_only_semantics tt c.write_transactions.result c.args.log.now (c.new.result, c.write_transactions.new.reader)
     (c.args.writer.now, c.write_transactions.new.writer) Q _
     (λ bytes rest text shown finds. (shown, finds)) c.new.ensures.left (search rules) parsed.shown parsed.reach parsed.end
     parsed.reads parsed.writes
