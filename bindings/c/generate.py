@@ -7,7 +7,7 @@ Writes to DIR:
     hidlog.def         the list of the functions that a DLL exports: those of hidlog.h
 
 machine.h replaces the runtime of wasm2c. The output depends only on the module and the version of wabt. Needs wasm2c of
-wabt, tested with 1.0.32 of Debian 12. Exits with 3 if wasm2c is missing.
+wabt, tested with 1.0.32 of Debian 12 and 1.0.36 of Debian 13. Exits with 3 if wasm2c is missing.
 """
 
 from __future__ import annotations
@@ -78,12 +78,39 @@ def _find(pattern: str, text: str) -> str:
     return str(found[0])
 
 
+# What wabt 1.0.36 names differently than 1.0.32: the function of an export, other functions, the data and the type of an
+# instance.
+_RENAMINGS = (
+    (r"\bw2c_hidlog_(hidlog_\w+)_0\b", r"w2c_\1"),
+    (r"\bw2c_hidlog_(f\d+)\b", r"w2c_\1"),
+    (r"\bdata_segment_data_w2c_hidlog_(d\d+)\b", r"data_segment_data_w2c_\1"),
+    (r"\bw2c_hidlog\b", "Z_hidlog_instance_t"),
+)
+
+
+def _list_parts(source: str) -> list[str]:
+    """Returns the parts of wasm2c's source that hidlog.c needs: declarations, globals and data, and functions."""
+    if "init_func_types" in source:
+        return [
+            _find(r"^static void init_func_types\(void\) \{.*?^\}\n(.*)^static void init_memories\(", source),
+            _find(r"^static void init_data_instances\(.*?^\}\n(.*)^/\* export: 'memory' \*/$", source),
+        ]
+    return [
+        _find(r"^((?:static \w+ w2c_\w+\([^()]*\);\n)+)\nFUNC_TYPE_T", source),
+        _find(r"^(static void init_globals\(.*)^static void init_memories\(", source),
+        _find(r"^wasm_rt_func_type_t wasm2c_hidlog_get_func_type\([^;{]*\{.*?^\}\n(.*)\Z", source),
+    ]
+
+
 def translate(module: Path) -> str:
     """Returns hidlog_module.h for a module."""
     source, header = _run_wasm2c(module)
+    for pattern, name in _RENAMINGS:
+        source, header = re.sub(pattern, name, source), re.sub(pattern, name, header)
     allocated = _find(r"^static void init_memories\(.*?\) \{\n(.*?)^\}$", source)
     known = (
-        r" *wasm_rt_allocate_memory\(.*?, (\d+), \d+\);\n *LOAD_DATA\(.*?, (\d+)u, data_segment_data_w2c_d0, \d+\);\n"
+        r" *wasm_rt_allocate_memory\(.*?, (\d+), \d+(?:, 0)?\);\n"
+        r" *LOAD_DATA\(.*?, (\d+)u, data_segment_data_w2c_d0, \d+\);\n"
     )
     numbers = re.fullmatch(known, allocated)
     if numbers is None:
@@ -100,14 +127,9 @@ def translate(module: Path) -> str:
         key_size=constants["hidlog_key_size"],
         capacity=constants["hidlog_key_capacity"],
     )
-    parts = [
-        preface,
-        _find(r"^(typedef struct Z_hidlog_instance_t \{.*?^\} Z_hidlog_instance_t;$)", header) + "\n",
-        _find(r"^static void init_func_types\(void\) \{.*?^\}\n(.*)^static void init_memories\(", source),
-        _find(r"^static void init_data_instances\(.*?^\}\n(.*)^/\* export: 'memory' \*/$", source).rstrip("\n") + "\n",
-        _END,
-    ]
-    return "\n".join(parts)
+    instance = _find(r"^(typedef struct Z_hidlog_instance_t \{.*?^\} Z_hidlog_instance_t;$)", header)
+    *parts, functions = _list_parts(source)
+    return "\n".join([preface, instance + "\n", *parts, functions.rstrip("\n") + "\n", _END])
 
 
 def list_functions() -> list[str]:

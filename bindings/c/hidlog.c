@@ -1,11 +1,14 @@
-// Implements hidlog.h with the WebAssembly module translated to C, for any little-endian machine with a C11 compiler.
-// Each call takes an instance of the module from a pool and maps the caller's buffers into its address space. So all of
-// a key's state is in its caller's memory, and calls on different keys need no lock. The first instance is static;
-// further instances are allocated only if calls run at the same time. If that fails, the call returns the error for a
-// buffer that is too small (hidlog_result_message returns 0).
+// Implements hidlog.h for any little-endian machine with a C11 compiler: calls the functions of the proved WebAssembly
+// module, which is translated to C in hidlog_module.h. Each call takes an instance of the module from a pool, and maps
+// the caller's buffers into the instance's address space. An instance keeps nothing between calls: all of a key's state
+// is in its caller's memory, so calls on different keys need no lock. The first instance is static; more instances are
+// allocated only if several calls run at the same time. If that fails, the call returns the error for a buffer that is
+// too small (hidlog_result_message returns 0).
 #include "hidlog.h"
 #include "hidlog_module.h"
 
+// A slot of the pool has an instance that no call uses, or NULL. EXCHANGE stores a value in a slot, and returns the old
+// value. STORE_IF_EMPTY stores a value if the slot has NULL, and returns whether it did. Both are atomic.
 #if defined(_MSC_VER)
 #include <intrin.h>
 typedef void *volatile pool_slot;
@@ -18,7 +21,7 @@ typedef _Atomic(void *) pool_slot;
 #define STORE_IF_EMPTY(slot, value) atomic_compare_exchange_strong((slot), &(void *){NULL}, (value))
 #endif
 
-// The module reads and writes these structs in place.
+// The module reads and writes the caller's structs in place, so their layouts must be those of the module.
 _Static_assert(sizeof(struct hidlog_result) == 32, "layout of hidlog_result");
 _Static_assert(sizeof(struct hidlog_need) == 236, "layout of hidlog_need");
 _Static_assert(sizeof(struct hidlog_cause) == 24, "layout of hidlog_cause");
@@ -35,7 +38,7 @@ enum { POOL_SLOTS = 16 };
 static struct instance first_instance;
 static pool_slot pool[POOL_SLOTS] = {&first_instance};
 
-// Takes an instance that no other call uses. Returns NULL if none can be allocated.
+// Takes an instance from the pool, or allocates one if the pool is empty. Returns NULL if there is no memory for it.
 static struct instance *acquire_instance(void) {
     struct instance *instance = NULL;
     for (u32 i = 0; i < POOL_SLOTS && instance == NULL; i++) {
@@ -53,7 +56,7 @@ static struct instance *acquire_instance(void) {
     return instance;
 }
 
-// Puts an instance back into the pool, or frees the instance if the pool is full.
+// Puts an instance back into the pool, or frees its memory if the pool is full.
 static void release_instance(struct instance *instance) {
     for (u32 i = 0; i < POOL_SLOTS; i++) {
         if (STORE_IF_EMPTY(&pool[i], instance)) {
@@ -65,20 +68,20 @@ static void release_instance(struct instance *instance) {
     }
 }
 
-// Window numbers: the key's memory, the key's struct, and the first and last window for other buffers. Window 15 stays
-// closed.
+// Numbers of windows (machine.h): for the key's memory, for its struct hidlog_key, and the first and the last window
+// for other buffers. Window 15 always has size 0.
 enum { MEMORY_WINDOW = 1, KEY_WINDOW = 2, FIRST_BUFFER = 3, LAST_BUFFER = 14 };
 #define ADDRESS_OF(window) ((u64)(window) << WINDOW_BITS)
 #define KEY_ADDRESS ADDRESS_OF(KEY_WINDOW)
 
-// The layout of struct hidlog_key in the module.
+// struct hidlog_key as the module lays it out, with a 64-bit address of the module in place of the pointer.
 struct module_key {
     u64 memory;
     u32 state;
     u32 padding;
 };
 
-// State of one call: the instance, and the next free window.
+// What one call uses: its instance of the module, and the windows that are already mapped to buffers.
 struct call {
     struct instance *instance;
     Z_hidlog_instance_t *module;
@@ -87,7 +90,7 @@ struct call {
     u32 is_too_long; // whether a buffer did not fit into the free windows
 };
 
-// Starts a call. Returns 0 if there is no memory for an instance.
+// Starts a call: acquires an instance. Returns 1, or 0 if there is no memory for an instance.
 static int begin_call(struct call *call) {
     call->instance = acquire_instance();
     if (call->instance == NULL) {
@@ -112,12 +115,13 @@ static void open_window(struct call *call, u32 number, const void *bytes, u64 le
     window->size = (u32)len;
 }
 
-// Returns the number of bytes that fit into the free windows.
+// Returns the size of a buffer that fills all windows that are still free.
 static u64 free_windows_len(const struct call *call) {
     return ADDRESS_OF(LAST_BUFFER + 1 - call->next_window);
 }
 
-// Maps a buffer into the module's address space. Returns the buffer's address there.
+// Maps a buffer to the next free windows. Returns the buffer's address in the module, or 0 if the buffer does not fit;
+// then `is_too_long` is set.
 static u64 map_buffer(struct call *call, const void *buffer, u64 len) {
     u64 address = ADDRESS_OF(call->next_window), offset = 0;
     if (len > free_windows_len(call) || call->next_window > LAST_BUFFER) {
@@ -131,8 +135,8 @@ static u64 map_buffer(struct call *call, const void *buffer, u64 len) {
     return address;
 }
 
-// Like map_buffer, for the output buffer, which must be mapped last. A buffer larger than the free windows (at least
-// 256 MiB) is used in part, and *out_cap is reduced.
+// Like map_buffer, for the output buffer, which must be mapped last. If the buffer is larger than the free windows (at
+// least 256 MiB), maps its beginning and reduces *out_cap accordingly.
 static u64 map_output(struct call *call, void *out, size_t *out_cap) {
     if (*out_cap > free_windows_len(call)) {
         *out_cap = (size_t)free_windows_len(call);
@@ -189,7 +193,7 @@ void hidlog_quiet(const uint8_t *log, size_t log_len, const uint8_t *snapshot, s
     run_command(w2c_hidlog_quiet, log, log_len, snapshot, snapshot_len, out, out_cap, result);
 }
 
-// Implements hidlog_show and hidlog_transactions; the latter has no `explain`.
+// Implements hidlog_show, and hidlog_transactions if `is_transactions` is 1; then `explain` is ignored.
 static void show_log(int is_transactions, const uint8_t *log, size_t log_len, uint32_t explain, uint8_t *out,
                      size_t out_cap, struct hidlog_result *result) {
     struct call call;
@@ -242,7 +246,8 @@ size_t hidlog_key_capacity(void) {
     return MODULE_CAPACITY;
 }
 
-// Starts a call on a key, and maps the key's memory. Returns 0 if there is no memory for an instance.
+// Starts a call on a key: acquires an instance, and maps the key's memory and struct. Returns 1, or 0 if there is no
+// memory for an instance.
 static int begin_key_call(struct call *call, const struct hidlog_key *key) {
     if (!begin_call(call)) {
         return 0;
@@ -412,7 +417,8 @@ int32_t hidlog_key_replay_lines(struct hidlog_key *key, const uint8_t *log, size
 
 // ---- The WebAuthn client
 
-// Addresses, in the module, of the parameters that hidlog_client_request and hidlog_client_response have in common.
+// Addresses, in the module, of the buffers that both hidlog_client_request and hidlog_client_response have as
+// parameters.
 struct client_parameters {
     u64 options, mediation, origin, suffix, report;
 };

@@ -1,7 +1,8 @@
-// The WebAssembly memory and operations that hidlog_module.h uses. The highest four of an address's 32 bits select one
-// of 16 windows of 256 MiB. The first window is the module's own memory. The others are mapped to buffers of the
-// caller, which the module reads and writes in place. An access outside its window ends the process, as does a division
-// by zero; the proof excludes both.
+// Replaces the runtime library of wasm2c: WebAssembly's memory and instructions, as hidlog_module.h uses them. The
+// memory is divided into windows of 256 MiB; the highest four bits of a 32-bit address select one of 16 windows. The
+// first window is the module's own memory. Each other window is mapped to a buffer of the caller, so that the module
+// reads and writes the buffer in place. An access outside a window ends the process, as does a division by zero; the
+// proof of the module excludes both.
 #ifndef HIDLOG_MACHINE_H
 #define HIDLOG_MACHINE_H
 
@@ -16,7 +17,7 @@
 #error "hidlog needs a little-endian processor: the WebAssembly module reads the structs of hidlog.h in place"
 #endif
 
-// Loads are always inlined: the compiler's own choices lead to a fifth more instructions.
+// Loads are always inlined. If the compiler chooses which loads to inline, a call executes a fifth more instructions.
 #if defined(__GNUC__)
 #define ALWAYS_INLINE inline __attribute__((always_inline))
 #elif defined(_MSC_VER)
@@ -25,7 +26,7 @@
 #define ALWAYS_INLINE inline
 #endif
 
-// Integer types, with the names that wasm2c uses.
+// Integer types, with the names that wasm2c's output uses.
 typedef uint8_t u8;
 typedef int8_t s8;
 typedef uint16_t u16;
@@ -34,16 +35,18 @@ typedef int32_t s32;
 typedef uint64_t u64;
 typedef int64_t s64;
 
-// The sum of an address and a constant offset is less than 2^33, so there are 32 windows. The upper 16 stay closed.
+// An instruction adds a constant offset to its 32-bit address. The sum is less than 2^33, so it can lie in one of 32
+// windows of 2^28 bytes. The upper 16 windows always have size 0.
 enum { WINDOW_BITS = 28, WINDOWS = 32, PAGE_BYTES = 65536 };
 
-// A window onto the caller's memory. If a buffer has several windows, each of them extends to the buffer's end.
+// The bytes of the caller's buffer that a window is mapped to. A buffer of more than 256 MiB has several windows; then
+// `size` of each window counts all bytes up to the buffer's end.
 struct window {
     u8 *bytes;
     u32 size;
 };
 
-// MODULE_PAGES is defined in hidlog_module.h.
+// The module's memory. hidlog_module.h defines MODULE_PAGES, the size of `own` in pages, before it includes this file.
 typedef struct {
     struct window windows[WINDOWS];
     u8 own[MODULE_PAGES * PAGE_BYTES];
@@ -54,7 +57,8 @@ static _Noreturn void trap(void) {
     abort();
 }
 
-// Returns a pointer to `len` bytes of a window. Not inlined, since most accesses are to the module's own memory.
+// Returns a pointer to the `len` bytes at an address outside the module's own memory. Ends the process if they are not
+// in a window. Not inlined, since most accesses are to the module's own memory.
 static u8 *window_bytes(const wasm_rt_memory_t *memory, u64 address, u64 len) {
     const struct window *window = &memory->windows[address >> WINDOW_BITS];
     u64 offset = address & ((1u << WINDOW_BITS) - 1);
@@ -64,7 +68,7 @@ static u8 *window_bytes(const wasm_rt_memory_t *memory, u64 address, u64 len) {
     return window->bytes + offset;
 }
 
-// Returns a pointer to `len` bytes at an address.
+// Returns a pointer to the `len` bytes at an address of the module.
 static ALWAYS_INLINE u8 *bytes_at(wasm_rt_memory_t *memory, u64 address, u64 len) {
     if (len <= sizeof memory->own && address <= sizeof memory->own - len) {
         return memory->own + address;
@@ -138,7 +142,7 @@ static inline u64 checked_divisor(u64 value) {
     return value;
 }
 
-// These are macros because they apply to operands of 32 and of 64 bits.
+// ROTATE_LEFT, ROTATE_RIGHT, DIV_U and REM_U are macros, so that they take operands of 32 and of 64 bits.
 #define ROTATE_LEFT(value, count, mask) ((value) << ((count) & (mask)) | (value) >> ((0 - (count)) & (mask)))
 #define ROTATE_RIGHT(value, count, mask) ((value) >> ((count) & (mask)) | (value) << ((0 - (count)) & (mask)))
 #define I32_ROTL(value, count) ROTATE_LEFT(value, count, 31)

@@ -1,6 +1,6 @@
-// The program hidlog, built with the portable library for systems without the proved program: replay, live, check,
-// quiet and show. Output, errors and exit statuses equal those of the proved program with --plain. The options --save,
-// --json, --summary, --all and --wide are missing, and --explain works with show only.
+// The program hidlog for systems that the proved program does not run on, built with the portable library. It has the
+// commands replay, live, check, quiet and show. Output, errors and exit statuses equal those of the proved program with
+// --plain. The options --save, --json, --summary, --all and --wide are missing, and --explain works with show only.
 #include "hidlog.h"
 
 #include <stdio.h>
@@ -36,7 +36,9 @@ static const char help_text[] =
     "  -V, --version   Print version\n";
 
 enum { EXIT_LOG_ERROR = 1, EXIT_FAILED = 2 };
-// Maximum length of a log line, and of the output of hidlog_key_replay_lines for one line (hidlog.h).
+// The value of enum hidlog_log_error for a failed read, which only programs use.
+enum { READ_ERROR = 4 };
+// Maximum lengths of a log line, and of what hidlog_key_replay_lines writes for one line (hidlog.h).
 enum { LINE_CAP = 255, LINE_OUT_CAP = 18000 };
 enum { MESSAGE_CAP = 64 };
 
@@ -59,7 +61,7 @@ static int print_error(const char *text, int status) {
     return status;
 }
 
-// Reallocates `data` to `cap` bytes. Exits if there is no memory.
+// Changes the size of the allocated block `data` to `cap` bytes, and returns the block. Exits if there is no memory.
 static uint8_t *resize(uint8_t *data, size_t cap) {
     uint8_t *resized = realloc(data, cap);
     if (resized == NULL) {
@@ -102,8 +104,9 @@ static void close_log(FILE *file) {
     }
 }
 
-// Reads the snapshot, if --load was used. Returns whether that succeeded. Fails if a checksum file PATH.hidlog-sum
-// exists, since this program cannot verify checksums. An error's first line is that of the proved program with --plain.
+// Reads the snapshot file that --load named; the snapshot is empty if `path` is NULL. Returns whether that succeeded.
+// Fails if a checksum file PATH.hidlog-sum exists, since this program cannot verify checksums. The first line of each
+// error message equals that of the proved program with --plain.
 static int read_snapshot(const char *path, struct bytes *snapshot) {
     FILE *file, *sums;
     int is_read = 0;
@@ -135,15 +138,16 @@ static int read_snapshot(const char *path, struct bytes *snapshot) {
     return is_read;
 }
 
-// Prints the error of a result, if any, with the prefix "hidlog: " or the file's name. Returns the exit status.
+// Prints the error message of a result, if any: it begins with "hidlog: ", or with the file's name in place of "hidlog"
+// if `file_name` is not NULL. Returns the exit status.
 static int print_result(const struct hidlog_result *result, const char *file_name) {
-    static const char front[] = "hidlog: ";
+    static const char prefix[] = "hidlog: ";
     uint8_t message[MESSAGE_CAP];
     size_t len = hidlog_result_message(result, message, sizeof message);
     fflush(stdout);
-    if (len > sizeof front - 1 && file_name != NULL) {
-        fprintf(stderr, "%s: %.*s", file_name, (int)(len - (sizeof front - 1)),
-                (const char *)message + sizeof front - 1);
+    if (len > sizeof prefix - 1 && file_name != NULL) {
+        fprintf(stderr, "%s: %.*s", file_name, (int)(len - (sizeof prefix - 1)),
+                (const char *)message + sizeof prefix - 1);
     } else {
         fwrite(message, 1, len, stderr);
     }
@@ -164,8 +168,8 @@ static void call_command(const struct options *options, struct bytes log, struct
     }
 }
 
-// Returns the length of the output that is valid after a read error: without the final line, which summarizes the whole
-// log.
+// Returns how much of the output to print if the log could not be read to its end: everything except the final line,
+// which has the totals of replay, or the result of check.
 static size_t output_len_before_error(const char *command, struct bytes out, size_t written) {
     if (strcmp(command, "check") == 0) {
         return 0;
@@ -179,7 +183,7 @@ static size_t output_len_before_error(const char *command, struct bytes out, siz
     return written;
 }
 
-// Runs a command on a complete log.
+// Reads a log to its end, and runs a command other than live on it. Returns the exit status.
 static int run_command(const struct options *options, FILE *file, struct bytes snapshot, const char *file_name) {
     struct bytes log, out = {NULL, 0};
     struct hidlog_result result;
@@ -200,7 +204,7 @@ static int run_command(const struct options *options, FILE *file, struct bytes s
             result.line += log.data[i] == '\n';
         }
         result.status = HIDLOG_LOG_ERROR;
-        result.error = 4; // a read error of the program
+        result.error = READ_ERROR;
         written = output_len_before_error(options->command, out, written);
     }
     if (file_name != NULL && written > 0) {
@@ -212,8 +216,8 @@ static int run_command(const struct options *options, FILE *file, struct bytes s
     return print_result(&result, file_name);
 }
 
-// Replays a line that ends with a newline, and prints the output. Returns the exit status.
-static int play_line(struct hidlog_key *key, const uint8_t *line, size_t len, uint64_t number) {
+// Replays one log line, which ends with a newline, and prints the output. Returns the exit status.
+static int replay_line(struct hidlog_key *key, const uint8_t *line, size_t len, uint64_t number) {
     static uint8_t out[LINE_OUT_CAP];
     struct hidlog_result result = {HIDLOG_LOG_ERROR, HIDLOG_ERR_LINE_TOO_LONG, number, 0, 0};
     if (len <= LINE_CAP + 1) {
@@ -235,8 +239,8 @@ static int print_totals(struct hidlog_key *key) {
     return 0;
 }
 
-// Replays the lines of a log as they arrive.
-static int play_lines(struct hidlog_key *key, FILE *file) {
+// Replays each line of a log as soon as it arrives, and prints the totals at the end. Returns the exit status.
+static int replay_lines(struct hidlog_key *key, FILE *file) {
     uint8_t line[LINE_CAP + 2];
     size_t len = 0;
     uint64_t number = 1;
@@ -244,7 +248,7 @@ static int play_lines(struct hidlog_key *key, FILE *file) {
     while ((next = getc(file)) != EOF) {
         line[len++] = (uint8_t)next;
         if (next == '\n' || len == sizeof line) {
-            status = play_line(key, line, len, number++);
+            status = replay_line(key, line, len, number++);
             if (status != 0) {
                 return status;
             }
@@ -252,12 +256,12 @@ static int play_lines(struct hidlog_key *key, FILE *file) {
         }
     }
     if (ferror(file)) {
-        struct hidlog_result failed = {HIDLOG_LOG_ERROR, 4, number, 0, 0};
+        struct hidlog_result failed = {HIDLOG_LOG_ERROR, READ_ERROR, number, 0, 0};
         return print_result(&failed, NULL);
     }
     if (len > 0) {
         line[len++] = '\n';
-        status = play_line(key, line, len, number);
+        status = replay_line(key, line, len, number);
         if (status != 0) {
             return status;
         }
@@ -277,14 +281,14 @@ static int run_live(FILE *file, struct bytes snapshot) {
     key.memory = resize(NULL, hidlog_key_size());
     int status = EXIT_FAILED;
     if (hidlog_key_init(&key, aaguid, 0, snapshot.data, snapshot.len) == 0) {
-        status = play_lines(&key, file);
+        status = replay_lines(&key, file);
         hidlog_key_destroy(&key);
     }
     free(key.memory);
     return status;
 }
 
-// Runs the command on one log.
+// Runs the command on the log with this path. Returns the exit status.
 static int run_file(const struct options *options, const char *path) {
     struct bytes snapshot;
     FILE *file = open_log(path);
@@ -312,13 +316,13 @@ static int is_command(const char *word) {
     return 0;
 }
 
-static int report_usage_error(const char *what, const char *word) {
-    fprintf(stderr, "error: %s '%s'\n\nFor more information, try '--help'.\n", what, word);
+static int report_usage_error(const char *error, const char *argument) {
+    fprintf(stderr, "error: %s '%s'\n\nFor more information, try '--help'.\n", error, argument);
     return EXIT_FAILED;
 }
 
-// Parses the arguments after the command, and moves the file names to the start of `words`. Returns 0, or the exit
-// status for an error.
+// Parses the arguments after the command into *options, whose `files` are moved to the start of `words`. Returns 0, or
+// the exit status after an error.
 static int parse_arguments(int count, char **words, struct options *options) {
     int is_show = strcmp(options->command, "show") == 0, takes_many = strcmp(options->command, "check") == 0;
     options->files = words;

@@ -1,9 +1,11 @@
 #!/usr/bin/env bash
-# Writes the files of the portable C library to a directory, generated from release/hidlog.wasm: bindings/c/sources.sh
-# DIR
+# Writes the sources of the portable C library to a directory: translates release/hidlog.wasm to C, and copies the files
+# that are written by hand.
 #
-# The output depends only on release/ and the version of wabt. Needs wabt and Python 3; exits with 3 if wasm2c is
-# missing.
+#     bindings/c/sources.sh DIR
+#
+# The output depends only on the sources, release/ and the version of wabt. Needs wabt and Python 3; exits with 3 if
+# wasm2c of wabt is missing.
 set -euo pipefail
 [ $# = 1 ] || { echo "usage: bindings/c/sources.sh DIR" >&2; exit 2; }
 top=$(cd "$(dirname "${BASH_SOURCE[0]}")/../.." && pwd)

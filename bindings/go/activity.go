@@ -19,8 +19,8 @@ const (
 	flagBackedUp       = 0x10
 )
 
-// browserCall is a call of Create or Get, and its result. faults describes what injected faults changed in the
-// response.
+// browserCall is a call of Browser.Create or Browser.Get, and its result: the credential's JSON or an error. faults
+// describes the changes that injected faults made to the response.
 type browserCall struct {
 	kind         ceremony
 	origin       string
@@ -50,9 +50,10 @@ func (k *SecurityKey) ReportOnFailure(t TestingT) {
 	})
 }
 
-// Report describes the last calls of the key's browsers, for the output of a failed test. For each call, it has the
-// result (a created credential, a signed assertion, or who refused the call and why), the options, and the faults that
-// changed the response. The enabled faults follow. The report is empty if there were no calls and no fault is enabled.
+// Report describes the last calls of Create and Get in the key's browsers, for the output of a failed test. For each
+// call, it has the result (a created credential, a signed assertion, or who refused the call and why), the options, and
+// the faults that changed the response. Then it lists the enabled faults. The report is empty if there were no calls
+// and no fault is enabled.
 func (k *SecurityKey) Report() string {
 	held := map[string]Credential{}
 	for _, credential := range k.Credentials() {
@@ -81,12 +82,12 @@ func (k *SecurityKey) Report() string {
 	return strings.Join(lines, "\n")
 }
 
-// formatStatus returns a status with its name.
+// formatStatus returns a CTAP status in hexadecimal, followed by its name.
 func formatStatus(status byte) string {
 	return strings.TrimSpace(fmt.Sprintf("0x%02X %s", status, statusNames[Status(status)]))
 }
 
-// addCall remembers a call for the report.
+// addCall stores a call for the report, and drops the oldest call if there are more than maxCalls.
 func (k *SecurityKey) addCall(call browserCall) {
 	k.mutex.Lock()
 	defer k.mutex.Unlock()
@@ -96,8 +97,8 @@ func (k *SecurityKey) addCall(call browserCall) {
 	}
 }
 
-// parseOptions returns the decoded options, or their member publicKey if present. It returns nil if the JSON is
-// invalid.
+// parseOptions returns the call's decoded options. If they are {"publicKey": ..}, it returns that member's value. It
+// returns nil if the JSON is invalid.
 func (c browserCall) parseOptions() map[string]any {
 	var options map[string]any
 	_ = json.Unmarshal(c.options, &options)
@@ -107,8 +108,8 @@ func (c browserCall) parseOptions() map[string]any {
 	return options
 }
 
-// findOption returns the value of a member of nested objects, and whether it is present. path is the names of the
-// members, separated by dots.
+// findOption returns the value at a path in nested objects, and whether it is present. A path is the names of members,
+// separated by dots, such as "rp.id".
 func findOption(options map[string]any, path string) (any, bool) {
 	var value any = options
 	isPresent := true
@@ -119,17 +120,18 @@ func findOption(options map[string]any, path string) (any, bool) {
 	return value, isPresent
 }
 
-// findText returns the value of an option if it is a string, and an empty string otherwise.
-func findText(options map[string]any, path string) string {
+// findTextOption returns the value at a path in nested objects if the value is a string, and an empty string otherwise.
+func findTextOption(options map[string]any, path string) string {
 	value, _ := findOption(options, path)
 	text, _ := value.(string)
 	return text
 }
 
-// describeCall returns one line about the result of a call. held has the key's credentials by ID in base64url.
+// describeCall returns the report's line about the result of the call with this index. held maps the IDs of the
+// credentials on the key, in base64url, to the credentials.
 func (k *SecurityKey) describeCall(index int, held map[string]Credential) string {
 	c := k.calls[index]
-	user := findText(c.parseOptions(), "user.name")
+	user := findTextOption(c.parseOptions(), "user.name")
 	if c.err != nil {
 		what := map[ceremony]string{createCeremony: "create a credential", getCeremony: "sign an assertion"}[c.kind]
 		if user != "" {
@@ -143,32 +145,33 @@ func (k *SecurityKey) describeCall(index int, held map[string]Credential) string
 	}
 	for _, other := range k.calls {
 		if user == "" && other.kind == createCeremony && other.parseCredential().ID == made.ID {
-			user = findText(other.parseOptions(), "user.name")
+			user = findTextOption(other.parseOptions(), "user.name")
 		}
 	}
 	if user == "" {
 		user = "a user without a name"
 	}
-	details := made.describeFlags()
+	details := made.describeAuthenticatorData()
 	credential, isHeld := held[made.ID]
 	switch {
 	case c.kind == getCeremony && made.Response.UserHandle == "":
 		details = append(details, "no user handle")
 	case c.kind == getCeremony:
-		details = append(details, "user handle "+shorten(made.Response.UserHandle))
+		details = append(details, "user handle "+shortenText(made.Response.UserHandle))
 	case !isHeld:
-		details = append(details, k.explainMissing(index))
+		details = append(details, k.explainMissingCredential(index))
 	case credential.Discoverable:
 		details = append(details, "discoverable")
 	default:
 		details = append(details, "not discoverable")
 	}
 	what := map[ceremony]string{createCeremony: "created a credential", getCeremony: "signed an assertion"}[c.kind]
-	details = append(details, "credential "+shorten(made.ID))
+	details = append(details, "credential "+shortenText(made.ID))
 	return fmt.Sprintf("%s for %s at %s: %s", what, user, c.origin, strings.Join(details, ", "))
 }
 
-// describeRefusal returns who refused a call, or "failed" if neither the key nor the browser refused it.
+// describeRefusal returns who refused a failed call: "the key refused" or "the browser refused". For other errors it
+// returns "failed".
 func (c browserCall) describeRefusal() string {
 	_, isDOMError := c.err.(*DOMError)
 	switch {
@@ -181,24 +184,26 @@ func (c browserCall) describeRefusal() string {
 	}
 }
 
-// account returns the RP ID hash and the user ID of a new credential that is discoverable, otherwise an empty string.
-func (c browserCall) account() string {
+// createdAccount returns the account of the discoverable credential that a call created, as its RP ID hash followed by
+// its user ID. It returns an empty string if the call created no discoverable credential. The key keeps only one
+// discoverable credential for an account.
+func (c browserCall) createdAccount() string {
 	options := c.parseOptions()
 	isRequired, _ := findOption(options, "authenticatorSelection.requireResidentKey")
-	kind := findText(options, "authenticatorSelection.residentKey")
+	kind := findTextOption(options, "authenticatorSelection.residentKey")
 	data := c.parseCredential().authenticatorData()
 	isDiscoverable := kind == "required" || kind == "preferred" || kind == "" && isRequired == true
 	if c.kind != createCeremony || len(data) < 37 || !isDiscoverable {
 		return ""
 	}
-	return string(data[:32]) + findText(options, "user.id")
+	return string(data[:32]) + findTextOption(options, "user.id")
 }
 
-// explainMissing returns why the key no longer has the credential that a call created.
-func (k *SecurityKey) explainMissing(index int) string {
-	account := k.calls[index].account()
+// explainMissingCredential returns why the key no longer has the credential that the call with this index created.
+func (k *SecurityKey) explainMissingCredential(index int) string {
+	account := k.calls[index].createdAccount()
 	for _, later := range k.calls[index+1:] {
-		if account != "" && later.account() == account {
+		if account != "" && later.createdAccount() == account {
 			return "no longer on the key (replaced by a later credential for the same user ID)"
 		}
 	}
@@ -211,21 +216,21 @@ type credentialJSON struct {
 	Response struct{ AuthenticatorData, UserHandle string }
 }
 
-// parseCredential returns the credential of a call. That of a failed call is empty.
+// parseCredential returns the credential that a call returned, or an empty credential if the call failed.
 func (c browserCall) parseCredential() credentialJSON {
 	var made credentialJSON
 	_ = json.Unmarshal(c.credential, &made)
 	return made
 }
 
-// authenticatorData returns the decoded authenticator data.
+// authenticatorData returns the credential's authenticator data, decoded from base64url.
 func (c credentialJSON) authenticatorData() []byte {
 	data, _ := base64.RawURLEncoding.DecodeString(c.Response.AuthenticatorData)
 	return data
 }
 
-// describeFlags returns the flags and the signature counter.
-func (c credentialJSON) describeFlags() []string {
+// describeAuthenticatorData returns descriptions of the flags and the signature counter in the authenticator data.
+func (c credentialJSON) describeAuthenticatorData() []string {
 	data := c.authenticatorData()
 	if len(data) < 37 {
 		return nil
@@ -245,7 +250,7 @@ func (c credentialJSON) describeFlags() []string {
 	return append(details, fmt.Sprintf("counter %d", binary.BigEndian.Uint32(data[33:])))
 }
 
-// reportedOptions are the paths of the options that the report shows for a call.
+// reportedOptions has the paths (see findOption) of the options that the report shows for calls of Create and Get.
 var reportedOptions = map[ceremony][]string{
 	createCeremony: {"rp.id", "user.id", "authenticatorSelection.residentKey", "authenticatorSelection.requireResidentKey",
 		"authenticatorSelection.userVerification", "authenticatorSelection.authenticatorAttachment", "attestation", "timeout",
@@ -253,10 +258,10 @@ var reportedOptions = map[ceremony][]string{
 	getCeremony: {"rpId", "userVerification", "timeout", "challenge", "allowCredentials"},
 }
 
-// rareOptions are left out of the report if the page did not pass them.
+// rareOptions has the names of options that the report shows only if the page passed them.
 var rareOptions = map[string]bool{"requireResidentKey": true, "authenticatorAttachment": true, "attestation": true, "timeout": true}
 
-// describeOptions returns the options that the report shows for a call, as the page passed them.
+// describeOptions returns the names and the values of the options that the report shows for a call, in one line.
 func describeOptions(kind ceremony, options map[string]any) string {
 	found := []string{}
 	for _, path := range reportedOptions[kind] {
@@ -265,15 +270,15 @@ func describeOptions(kind ceremony, options map[string]any) string {
 		if isPresent {
 			found = append(found, name+" "+describeOption(path, value))
 		} else if !rareOptions[name] {
-			found = append(found, name+" "+describeAbsent(name, options))
+			found = append(found, name+" "+describeAbsentOption(name, options))
 		}
 	}
 	return strings.Join(found, ", ")
 }
 
-// describeAbsent returns "absent", and for residentKey and userVerification also the default (WebAuthn Level 3, sections
-// 5.4.4 and 5.5).
-func describeAbsent(name string, options map[string]any) string {
+// describeAbsentOption describes an option that the page did not pass: "absent", followed by the default value for
+// residentKey and userVerification (WebAuthn Level 3, sections 5.4.4 and 5.5).
+func describeAbsentOption(name string, options map[string]any) string {
 	isRequired, _ := findOption(options, "authenticatorSelection.requireResidentKey")
 	switch {
 	case name == "residentKey" && isRequired == true:
@@ -287,7 +292,7 @@ func describeAbsent(name string, options map[string]any) string {
 	}
 }
 
-// describeOption returns the value of an option.
+// describeOption returns the value of an option as text. It shortens IDs and challenges.
 func describeOption(path string, value any) string {
 	listed, isList := value.([]any)
 	text, isText := value.(string)
@@ -295,14 +300,14 @@ func describeOption(path string, value any) string {
 	case isText && text == "" || isList && len(listed) == 0:
 		return "empty"
 	case isText && (path == "user.id" || path == "challenge"):
-		return shorten(text)
+		return shortenText(text)
 	case isText:
 		return text
 	case isList && (path == "excludeCredentials" || path == "allowCredentials"):
 		ids := []string{}
 		for _, item := range listed {
 			descriptor, _ := item.(map[string]any)
-			ids = append(ids, shorten(findText(descriptor, "id")))
+			ids = append(ids, shortenText(findTextOption(descriptor, "id")))
 		}
 		return strings.Join(ids, " ")
 	default:
@@ -311,8 +316,8 @@ func describeOption(path string, value any) string {
 	}
 }
 
-// shorten returns the first eight characters of a longer text, followed by two dots.
-func shorten(text string) string {
+// shortenText cuts a text that is longer than eight characters to its first eight, followed by two dots.
+func shortenText(text string) string {
 	if len(text) <= 8 {
 		return text
 	}

@@ -8,15 +8,15 @@ import (
 	"cogtzil.example/hidlog"
 )
 
-// failingTest is a TestingT that has failed. It collects what is logged.
+// failingTest is a TestingT that stands for a failed test. It collects the cleanup functions and the logged texts.
 type failingTest struct {
-	atEnd  []func()
-	logged []string
+	cleanups []func()
+	logged   []string
 }
 
-func (f *failingTest) Cleanup(at func()) { f.atEnd = append(f.atEnd, at) }
-func (f *failingTest) Failed() bool      { return true }
-func (f *failingTest) Helper()           {}
+func (f *failingTest) Cleanup(cleanup func()) { f.cleanups = append(f.cleanups, cleanup) }
+func (f *failingTest) Failed() bool           { return true }
+func (f *failingTest) Helper()                {}
 func (f *failingTest) Logf(format string, args ...any) {
 	f.logged = append(f.logged, fmt.Sprintf(format, args...))
 }
@@ -31,11 +31,11 @@ func TestReportDescribesCalls(t *testing.T) {
 	}
 	key.Presence = []hidlog.Presence{hidlog.PresenceDenied}
 	if _, err := browser.Get(get); err == nil {
-		t.Fatal("expected an error, since the user denied the sign-in")
+		t.Fatal("Get succeeded, although the user denied presence")
 	}
 	foreign := strings.NewReplacer("example.com", "other.example", "ann", "bob").Replace(string(create))
 	if _, err := browser.Create([]byte(foreign)); err == nil {
-		t.Fatal("expected an error, since the RP ID is of another domain")
+		t.Fatal("Create succeeded, although the RP ID belongs to another domain than the origin")
 	}
 	key.Presence = nil
 	key.Faults.BadSignature = true
@@ -70,11 +70,11 @@ func TestReportDescribesCalls(t *testing.T) {
 	}
 	got := strings.Split(key.Report(), "\n")
 	if len(got) != len(want) {
-		t.Fatalf("expected %d lines, got:\n%s", len(want), strings.Join(got, "\n"))
+		t.Fatalf("expected a report of %d lines, got:\n%s", len(want), strings.Join(got, "\n"))
 	}
 	for i, line := range want {
 		if !strings.HasPrefix(got[i], line) {
-			t.Errorf("expected %q, got %q", line, got[i])
+			t.Errorf("expected a line of the report that begins with %q, got %q", line, got[i])
 		}
 	}
 }
@@ -91,10 +91,10 @@ func TestReportExplainsMissingCredential(t *testing.T) {
 	why := ", no longer on the key (replaced by a later credential for the same user ID), credential "
 	got := strings.Split(key.Report(), "\n")
 	if !strings.Contains(got[0], why) || !strings.HasSuffix(got[1], ", excludeCredentials empty") {
-		t.Errorf("expected a line with %q and a line that ends with \", excludeCredentials empty\", got %q", why, got[:2])
+		t.Errorf("expected a line with %q, then one that ends with \", excludeCredentials empty\", got %q", why, got[:2])
 	}
 	if !strings.Contains(got[2], ", discoverable, credential ") {
-		t.Errorf("expected a discoverable credential, got %q", got[2])
+		t.Errorf("expected a line that describes a discoverable credential, got %q", got[2])
 	}
 }
 
@@ -105,16 +105,16 @@ func TestReportIsLoggedOnlyIfTheTestFails(t *testing.T) {
 	if _, err := key.Browser(origin).Create(create); err != nil {
 		t.Fatal(err)
 	}
-	for _, at := range failing.atEnd {
-		at()
+	for _, cleanup := range failing.cleanups {
+		cleanup()
 	}
 	if len(failing.logged) != 1 || !strings.HasPrefix(failing.logged[0], "the security key:\ncreated a credential for ann at ") {
-		t.Errorf("expected one report, got %q", failing.logged)
+		t.Errorf("expected one logged report, got %q", failing.logged)
 	}
 }
 
 func TestReportOfUnusedKeyIsEmpty(t *testing.T) {
 	if report := newKey(t).Report(); report != "" {
-		t.Errorf("expected no report, got %q", report)
+		t.Errorf("expected an empty report, got %q", report)
 	}
 }

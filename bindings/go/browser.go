@@ -14,17 +14,19 @@ import (
 type Browser struct {
 	key    *SecurityKey
 	origin string
-	// Account is the index of the account to sign in with, if several match. The newest account has index 0.
+	// Account selects the account that Get signs in with if several match: 0 is the newest, 1 the next older, and so
+	// on.
 	Account int
-	// Mediation is the mediation of the calls [default: optional]. A sign-in with mediation "conditional" uses Account at
-	// once.
+	// Mediation is the value of the option mediation of Create and Get [default: optional]. With "conditional", Get
+	// does not wait for the user to select an account: it signs in with Account immediately.
 	Mediation string
 }
 
-// DOMError is the error that a page would get. Name is, for example, NotAllowedError or InvalidStateError.
+// DOMError is an exception that navigator.credentials would throw in a page. Name is, for example, NotAllowedError or
+// InvalidStateError.
 type DOMError struct{ Name, Message string }
 
-// Error returns the name and the message.
+// Error returns the exception's name and message.
 func (e *DOMError) Error() string { return e.Name + ": " + e.Message }
 
 // Browser returns a browser at an origin, such as https://example.com or http://localhost:5000.
@@ -45,17 +47,17 @@ func (b *Browser) Get(optionsJSON []byte) ([]byte, error) {
 	return b.call(getCeremony, optionsJSON)
 }
 
-// call runs Create or Get, and adds the call with its result to the key's report.
+// call makes a call of Create or Get, and adds the call and its result to the key's report.
 func (b *Browser) call(kind ceremony, options []byte) ([]byte, error) {
 	call := browserCall{kind: kind, origin: b.origin, options: clone(options)}
-	call.credential, call.err = b.perform(&call)
+	call.credential, call.err = b.requestCredential(&call)
 	b.key.addCall(call)
 	return call.credential, call.err
 }
 
-// perform runs a call, and returns the credential as JSON. It stores in call what the report says about faults and
-// refusals.
-func (b *Browser) perform(call *browserCall) ([]byte, error) {
+// requestCredential sends a call's request to the key, and returns the credential as JSON. For the report, it sets
+// call.faults and call.isKeyRefusal.
+func (b *Browser) requestCredential(call *browserCall) ([]byte, error) {
 	c := newClientCall(call.kind, call.options, b.origin, b.Mediation, b.key.Options)
 	request, err := c.buildRequest()
 	if err != nil {
@@ -86,7 +88,7 @@ func (b *Browser) perform(call *browserCall) ([]byte, error) {
 // getNextAssertion is the command byte of authenticatorGetNextAssertion (CTAP 2.1, section 6.3).
 const getNextAssertion = 0x08
 
-// exchange sends a request to the key, and returns the response with its status byte.
+// exchange sends a CTAP2 request to the key, and returns the response including its status byte.
 func (b *Browser) exchange(request []byte) ([]byte, error) {
 	data, err := b.key.Exchange(request)
 	if status, is := err.(Status); is {
@@ -98,8 +100,8 @@ func (b *Browser) exchange(request []byte) ([]byte, error) {
 	return append([]byte{0}, data...), nil
 }
 
-// signedResponse is the authenticator data and the signature of a response, the ID of the credential that signed, the
-// clientDataHash of the request, and what faults changed.
+// signedResponse has the ID of the credential that signed a response, the response's authenticator data and signature,
+// the clientDataHash of the request, and descriptions of the changes that injected faults made.
 type signedResponse struct {
 	id              CredentialID
 	data, signature []byte
@@ -107,8 +109,9 @@ type signedResponse struct {
 	faults          []string
 }
 
-// alterResponse applies the key's options and the enabled faults to a response, and stores the response's signature
-// counter. It returns the response, and what faults changed.
+// alterResponse changes a successful response as the key's options and the enabled faults require, and stores its
+// signature counter for the fault StaleSignCount. It returns the changed response, and descriptions of the changes that
+// faults made.
 func (b *Browser) alterResponse(c *clientCall, request, response []byte) ([]byte, []string, error) {
 	parameters, err := decodeMembers(request[1:])
 	if err != nil {
@@ -143,20 +146,20 @@ func (b *Browser) alterResponse(c *clientCall, request, response []byte) ([]byte
 	if c.isVerified {
 		flags |= flagUserVerified
 	}
-	if err := b.alterSigned(&signed, flags); err != nil {
+	if err := b.alterSignedResponse(&signed, flags); err != nil {
 		return nil, nil, err
 	}
 	if flags != 0 {
 		b.key.addComment("outside of the core: flags " + flagNames(flags) + ", and the signature over them")
 	}
-	hasNone := c.ceremony == createCeremony && b.key.Options.NoAttestation
-	if hasNone {
+	noAttestation := c.ceremony == createCeremony && b.key.Options.NoAttestation
+	if noAttestation {
 		b.key.addComment("outside of the core: attestation none")
 	}
-	return append([]byte{0}, encode(buildResponse(c.ceremony, members, signed, hasNone))...), signed.faults, nil
+	return append([]byte{0}, encode(buildResponse(c.ceremony, members, signed, noAttestation))...), signed.faults, nil
 }
 
-// decodeMembers decodes bytes that must be exactly one CBOR map.
+// decodeMembers decodes bytes that must be one CBOR map, and returns the map. It returns an error if more bytes follow.
 func decodeMembers(from []byte) (map[any]any, error) {
 	item, rest, err := decode(from)
 	members, isMap := item.(map[any]any)
@@ -166,10 +169,10 @@ func decodeMembers(from []byte) (map[any]any, error) {
 	return members, nil
 }
 
-// buildResponse returns a response in canonical order, with the authenticator data and the signature of signed. If
-// hasNone is true, the attestation is "none".
-func buildResponse(kind ceremony, members map[any]any, signed signedResponse, hasNone bool) []entry {
-	if hasNone {
+// buildResponse returns the CBOR map of a response, with the authenticator data and the signature of signed. members is
+// the map that the key returned. If noAttestation is true, the attestation statement format is "none".
+func buildResponse(kind ceremony, members map[any]any, signed signedResponse, noAttestation bool) []entry {
+	if noAttestation {
 		return []entry{{1, "none"}, {2, signed.data}, {3, []entry{}}}
 	}
 	if kind == createCeremony {
@@ -184,9 +187,9 @@ func buildResponse(kind ceremony, members map[any]any, signed signedResponse, ha
 	return found
 }
 
-// alterSigned sets flags in the authenticator data, injects the enabled faults, and signs changed data again, before it
-// is truncated.
-func (b *Browser) alterSigned(signed *signedResponse, flags byte) error {
+// alterSignedResponse sets flags in the authenticator data, and injects the enabled faults. If this changes the data,
+// it signs the data again. The fault TruncateBy is injected last, after signing.
+func (b *Browser) alterSignedResponse(signed *signedResponse, flags byte) error {
 	faults, data := &b.key.Faults, clone(signed.data)
 	data[32] |= flags
 	if last, isKnown := b.key.last[signed.id]; faults.StaleSignCount && isKnown {

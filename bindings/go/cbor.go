@@ -6,13 +6,14 @@ import (
 	"fmt"
 )
 
-// entry is a key and a value of a map. A map is encoded in the order of its slice, which must be canonical (CTAP 2.1,
-// section 8).
+// entry is a key of a CBOR map, and its value. To encode a map, use a slice of its entries in canonical order (CTAP
+// 2.1, section 8); encode does not sort them.
 type entry struct{ key, value any }
 
-var errCBOR = errors.New("hidlog: invalid response from the authenticator")
+var errCBOR = errors.New("hidlog: the authenticator's response is not valid CBOR, or lacks a required member")
 
-// encode encodes an item: int, []byte, string, bool, []any or []entry. Numbers and lengths must be below 65536.
+// encode returns a value as CBOR. The value must be an int, []byte, string, bool, []any or []entry. Numbers and lengths
+// must be below 65536.
 func encode(item any) []byte {
 	switch value := item.(type) {
 	case int:
@@ -57,7 +58,8 @@ func encodeHead(major byte, argument uint64) []byte {
 	}
 }
 
-// decode decodes the first item, and returns the item and the bytes after it. A map becomes a map[any]any.
+// decode decodes the first CBOR item in from, and returns the item and the bytes after it. A CBOR map becomes a
+// map[any]any.
 func decode(from []byte) (item any, rest []byte, err error) {
 	if len(from) == 0 {
 		return nil, nil, errCBOR

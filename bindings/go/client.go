@@ -17,7 +17,7 @@ const (
 	getCeremony    ceremony = C.HIDLOG_CLIENT_GET
 )
 
-// Maximum lengths in bytes of a request and of a credential's JSON.
+// Maximum lengths in bytes of a CTAP2 request, and of a credential as JSON.
 const (
 	requestCapacity    = longestMessage
 	credentialCapacity = 16384
@@ -34,8 +34,8 @@ var domErrorNames = map[C.int64_t]string{
 	C.HIDLOG_CLIENT_SYNTAX_ERROR:        "SyntaxError",
 }
 
-// clientCall has the parameters of one call of navigator.credentials. The C library (hidlog.h) checks the options, and
-// builds the request for the key and the credential's JSON.
+// clientCall has the parameters of one call of navigator.credentials. Its methods call the C library (hidlog.h), which
+// checks the options, builds the CTAP2 request, and converts the key's response to the credential's JSON.
 type clientCall struct {
 	ceremony          ceremony
 	options, origin   []byte
@@ -44,16 +44,17 @@ type clientCall struct {
 	isVerified        bool // whether the user is verified; set by buildRequest
 }
 
-// newClientCall returns a call. The default of mediation is "optional".
+// newClientCall returns a call to a key with the options key. An empty mediation stands for "optional".
 func newClientCall(kind ceremony, options []byte, origin, mediation string, key AuthenticatorOptions) *clientCall {
 	if mediation == "" {
 		mediation = "optional"
 	}
 	return &clientCall{ceremony: kind, options: options, origin: []byte(origin), mediation: []byte(mediation),
-		abilities: key.abilities()}
+		abilities: key.clientAbilities()}
 }
 
-// buildRequest checks the options and returns the request for the key: the command byte, then CBOR.
+// buildRequest checks the page's options, and returns the CTAP2 request: the command byte, followed by CBOR. It also
+// sets c.isVerified.
 func (c *clientCall) buildRequest() ([]byte, error) {
 	out := make([]byte, requestCapacity)
 	var report C.struct_hidlog_client_report
@@ -64,7 +65,7 @@ func (c *clientCall) buildRequest() ([]byte, error) {
 	return readResult(length, report, out)
 }
 
-// buildCredential returns the credential as JSON. from is the key's response: a status byte, then CBOR.
+// buildCredential returns the credential as JSON, from the key's response: a status byte, followed by CBOR.
 func (c *clientCall) buildCredential(from []byte) ([]byte, error) {
 	out := make([]byte, credentialCapacity)
 	var report C.struct_hidlog_client_report
@@ -75,20 +76,22 @@ func (c *clientCall) buildCredential(from []byte) ([]byte, error) {
 	return readResult(length, report, out)
 }
 
-// readResult returns the output of a library call, or its error.
+// readResult returns the output of a C function that returned length and wrote to report and out. A negative length is
+// an error code; then out has the texts for the error message.
 func readResult(length C.int64_t, report C.struct_hidlog_client_report, out []byte) ([]byte, error) {
 	if length >= 0 {
 		return out[:length], nil
 	}
 	name, known := domErrorNames[length]
 	if !known {
-		return nil, fmt.Errorf("hidlog: output too long: the request or the credential's JSON exceeds %d bytes", len(out))
+		return nil, fmt.Errorf("hidlog: the CTAP2 request or the credential's JSON is longer than %d bytes", len(out))
 	}
 	member, reason := out[:report.member_len], out[report.member_len:report.member_len+report.reason_len]
 	return nil, &DOMError{name, strings.TrimPrefix(string(member)+": "+string(reason), ": ")}
 }
 
-// firstByte returns a pointer to the first byte. The pointer is never nil, as hidlog.h requires.
+// firstByte returns a pointer to the first byte of from. If from is empty, it returns a pointer to some other byte,
+// since hidlog.h does not allow NULL pointers.
 func firstByte(from []byte) *C.uint8_t {
 	if len(from) == 0 {
 		from = make([]byte, 1)

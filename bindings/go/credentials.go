@@ -8,7 +8,7 @@ import (
 	"unsafe"
 )
 
-// Credentials returns the credentials, oldest first.
+// Credentials returns the credentials on the authenticator, oldest first.
 func (a *Authenticator) Credentials() []Credential {
 	a.mutex.Lock()
 	defer a.mutex.Unlock()
@@ -30,15 +30,16 @@ func (a *Authenticator) Credentials() []Credential {
 	return found
 }
 
-// updateCredentials changes the credentials with call, which power-cycles the authenticator, and begins a new
-// recording. It fails if a request is in progress. prefix is the start of an error message.
-func (a *Authenticator) updateCredentials(prefix string, call func() C.int32_t) error {
+// updateCredentials calls call, which must call a C function that changes the credentials. This power-cycles the
+// authenticator, so updateCredentials begins a new recording. It returns an error if a request is in progress.
+// operation is named in the error message.
+func (a *Authenticator) updateCredentials(operation string, call func() C.int32_t) error {
 	a.mutex.Lock()
 	defer a.mutex.Unlock()
 	if a.key == nil {
 		return ErrClosed
 	}
-	if err := toError(prefix, call()); err != nil {
+	if err := toError(operation, call()); err != nil {
 		return err
 	}
 	a.recordings = append(a.recordings, Recording{Snapshot: a.takeSnapshot()})
@@ -49,7 +50,7 @@ func (a *Authenticator) updateCredentials(prefix string, call func() C.int32_t) 
 // authenticator.
 func (a *Authenticator) Add(credential Credential) error {
 	if len(credential.UserID) > 64 || len(credential.UserName) > 64 {
-		return fmt.Errorf("hidlog: UserID and UserName must have at most 64 bytes, not %d and %d",
+		return fmt.Errorf("hidlog: UserID and UserName must have at most 64 bytes each, but they have %d and %d",
 			len(credential.UserID), len(credential.UserName))
 	}
 	var row C.struct_hidlog_credential
@@ -65,20 +66,22 @@ func (a *Authenticator) Add(credential Credential) error {
 	if credential.Discoverable {
 		row.discoverable = 1
 	}
-	return a.updateCredentials("add", func() C.int32_t { return C.hidlog_key_add_credential(a.key, 0, &row) })
+	return a.updateCredentials("add credential", func() C.int32_t { return C.hidlog_key_add_credential(a.key, 0, &row) })
 }
 
-// Remove removes the credential with this ID.
+// Remove removes the credential with this ID, and power-cycles the authenticator.
 func (a *Authenticator) Remove(id CredentialID) error {
-	return a.updateCredentials("remove", func() C.int32_t { return C.hidlog_key_remove_credential(a.key, 0, firstByte(id[:])) })
+	return a.updateCredentials("remove credential", func() C.int32_t {
+		return C.hidlog_key_remove_credential(a.key, 0, firstByte(id[:]))
+	})
 }
 
-// Clear removes all credentials.
+// Clear removes all credentials, and power-cycles the authenticator.
 func (a *Authenticator) Clear() error {
-	return a.updateCredentials("clear", func() C.int32_t { return C.hidlog_key_clear_credentials(a.key, 0) })
+	return a.updateCredentials("clear credentials", func() C.int32_t { return C.hidlog_key_clear_credentials(a.key, 0) })
 }
 
-// takeSnapshot returns a snapshot of the credentials. The caller must hold the mutex.
+// takeSnapshot returns a snapshot of the credentials. The caller must hold a.mutex.
 func (a *Authenticator) takeSnapshot() []byte {
 	out := make([]byte, C.HIDLOG_SNAPSHOT_MAX_LEN)
 	return out[:C.hidlog_key_save_snapshot(a.key, firstByte(out), C.size_t(len(out)))]

@@ -9,6 +9,7 @@
 //	key.Faults.BadSignature = true
 //	key.Presence = []hidlog.Presence{hidlog.PresenceDenied}
 //
-// An Authenticator is the verified core alone: packets and replies in, packets out. Its Recordings are logs for
-// `hidlog check`. Private keys are stored in clear text: use this package for tests only.
+// An Authenticator is the verified core without private keys and without a simulated user: its caller passes in the
+// host's packets, user presence, key pairs and signatures, and gets packets for the host. `hidlog check` checks its
+// Recordings. Private keys are stored in clear text: use this package for tests only.
 package hidlog

@@ -30,7 +30,7 @@ var create = []byte(`{"rp": {"id": "example.com", "name": "Example"}, "challenge
 	"authenticatorSelection": {"residentKey": "required"}}`)
 var get = []byte(`{"publicKey": {"challenge": "AAECAwQFBgcICQoLDA0ODw", "rpId": "example.com"}}`)
 
-// publicKeyCredential has the members of a credential's JSON that a service reads.
+// publicKeyCredential has the members of a credential's JSON that a relying party reads.
 type publicKeyCredential struct {
 	ID       string
 	Response struct {
@@ -68,7 +68,7 @@ func newKey(t *testing.T) *hidlog.SecurityKey {
 	return key
 }
 
-// checkRecordings runs `hidlog check` on each recording, if the program hidlog is found.
+// checkRecordings runs `hidlog check` on each of the key's recordings, if the program hidlog exists.
 func checkRecordings(t *testing.T, key *hidlog.Authenticator) {
 	t.Helper()
 	program := os.Getenv("HIDLOG_PROGRAM")
@@ -76,7 +76,7 @@ func checkRecordings(t *testing.T, key *hidlog.Authenticator) {
 		program = "../../release/hidlog"
 	}
 	if _, err := os.Stat(program); err != nil {
-		t.Logf("recordings are not checked: %v", err)
+		t.Logf("the recordings are not checked, since the program hidlog does not exist: %v", err)
 		return
 	}
 	for _, recording := range key.Recordings() {
@@ -91,12 +91,12 @@ func checkRecordings(t *testing.T, key *hidlog.Authenticator) {
 		command := exec.Command(program, args...)
 		command.Stdin = bytes.NewReader(recording.Log)
 		if output, err := command.CombinedOutput(); err != nil || !bytes.HasPrefix(output, []byte("same ")) {
-			t.Errorf("hidlog check: %v %s", err, output)
+			t.Errorf("expected `hidlog check` to succeed, got %v and the output %s", err, output)
 		}
 	}
 }
 
-// hasValidSignature returns whether the signature of a sign-in is valid for the registered public key.
+// hasValidSignature returns whether the assertion's signature is valid for the public key of the registration.
 func hasValidSignature(t *testing.T, registration, assertion publicKeyCredential) bool {
 	t.Helper()
 	public, err := x509.ParsePKIXPublicKey(decodeBase64URL(t, registration.Response.PublicKey))
@@ -120,25 +120,26 @@ func TestRegisterAndSignIn(t *testing.T) {
 	registered := parseCredential(t, made, err)
 	rp := sha256.Sum256([]byte("example.com"))
 	if data := decodeBase64URL(t, registered.Response.AuthenticatorData); !bytes.Equal(data[:32], rp[:]) || data[32] != 0x41 {
-		t.Fatalf("expected the RP ID hash of example.com and the flags 41, got the authenticator data %x", data)
+		t.Fatalf("expected the RP ID hash of example.com and the flags 0x41, got the authenticator data %x", data)
 	}
-	// {"fmt": "packed", "attStmt": {"alg": -7, "sig": signature of authenticator data and clientDataHash}, ..}
-	front := []byte("\xa3\x63fmt\x66packed\x67attStmt\xa2\x63alg\x26\x63sig\x58")
+	// The attestation object is CBOR: {"fmt": "packed", "attStmt": {"alg": -7, "sig": ..}, ..}. After this prefix, it
+	// has the length of sig in one byte, and sig: a signature over the authenticator data and clientDataHash.
+	prefix := []byte("\xa3\x63fmt\x66packed\x67attStmt\xa2\x63alg\x26\x63sig\x58")
 	attestation := decodeBase64URL(t, registered.Response.AttestationObject)
-	if !bytes.HasPrefix(attestation, front) {
+	if !bytes.HasPrefix(attestation, prefix) {
 		t.Fatalf("expected a packed self attestation with ES256, got the attestation object %x", attestation)
 	}
-	rest := attestation[len(front):]
+	rest := attestation[len(prefix):]
 	signed := registered
 	signed.Response.Signature = base64.RawURLEncoding.EncodeToString(rest[1 : 1+rest[0]])
 	if !hasValidSignature(t, registered, signed) {
-		t.Fatal("the signature of the self attestation is invalid")
+		t.Fatal("the signature in the self attestation is invalid")
 	}
 	for expected := uint32(1); expected < 4; expected++ {
 		used, err := browser.Get(get)
 		signedIn := parseCredential(t, used, err)
 		if signedIn.ID != registered.ID || signedIn.Response.UserHandle != "YW5u" {
-			t.Fatalf("expected the credential and the user handle of the registered account, got %s", used)
+			t.Fatalf("expected the registered credential and the user handle YW5u, got %s", used)
 		}
 		if !hasValidSignature(t, registered, signedIn) || signCount(t, signedIn) != expected {
 			t.Fatalf("expected a valid signature and the signature counter %d, got %s", expected, used)
@@ -153,7 +154,8 @@ func TestRegisterAndSignIn(t *testing.T) {
 	}
 }
 
-// TestAuthenticatorOptions tests flags, attestation and mediation, which are outside the core.
+// TestAuthenticatorOptions tests features that the verified core does not have: the flags UV, BE and BS, attestation
+// "none", and mediation.
 func TestAuthenticatorOptions(t *testing.T) {
 	key := newKey(t)
 	browser := key.Browser(origin)
@@ -164,25 +166,25 @@ func TestAuthenticatorOptions(t *testing.T) {
 	registered := parseCredential(t, made, err)
 	attestation := decodeBase64URL(t, registered.Response.AttestationObject)
 	if !bytes.HasPrefix(attestation, []byte("\xa3\x63fmt\x64none\x67attStmt\xa0\x68authData")) {
-		t.Fatalf("expected the attestation format none, got the attestation object %x", attestation)
+		t.Fatalf("expected the attestation statement format none, got the attestation object %x", attestation)
 	}
-	// The flags BE and BS belong to the credential, so changing the options does not clear them.
+	// The credential keeps the flags BE and BS that it was created with, even if the options change.
 	key.Options = hidlog.AuthenticatorOptions{Verification: hidlog.VerificationVerified}
 	browser.Mediation = "conditional"
 	used, err := browser.Get(get)
 	signedIn := parseCredential(t, used, err)
 	for flags, credential := range map[byte]publicKeyCredential{0x5d: registered, 0x1d: signedIn} {
 		if data := decodeBase64URL(t, credential.Response.AuthenticatorData); data[32] != flags {
-			t.Fatalf("expected the flags %02x, got %02x", flags, data[32])
+			t.Fatalf("expected authenticator data with the flags %02x, got %02x", flags, data[32])
 		}
 	}
 	if !hasValidSignature(t, registered, signedIn) {
-		t.Fatal("the signature over the flags is invalid")
+		t.Fatal("the signature over the authenticator data with changed flags is invalid")
 	}
 	log := key.Recordings()[0].Log
 	for text, count := range map[string]int{"flags UV, BE, BS, and the signature over them": 2, "attestation none": 1} {
 		if found := bytes.Count(log, []byte("\n# outside of the core: "+text+"\n")); found != count {
-			t.Fatalf("expected %d comments %q, got %d", count, text, found)
+			t.Fatalf("expected %d comments %q in the recording, got %d", count, text, found)
 		}
 	}
 	for _, test := range []struct {
@@ -202,7 +204,7 @@ func TestAuthenticatorOptions(t *testing.T) {
 	}
 }
 
-func TestPresence(t *testing.T) {
+func TestPresenceSequence(t *testing.T) {
 	key := newKey(t)
 	browser := key.Browser(origin)
 	key.Presence = []hidlog.Presence{hidlog.PresenceDenied, hidlog.PresenceTimedOut, hidlog.PresenceGranted}
@@ -223,12 +225,12 @@ func TestInvalidCallsAreRejected(t *testing.T) {
 	browser := key.Browser(origin)
 	used, err := browser.Create(create)
 	made := parseCredential(t, used, err)
-	// options returns registration options as JSON. The text rp is inserted before rp's member name, user is the user ID,
-	// and rest is appended to the members of the options.
-	options := func(rp, user, rest string) string {
+	// options returns registration options as JSON. rpMembers is inserted before the other member of rp, userID is in
+	// base64url, and moreMembers is appended to the members of the options.
+	options := func(rpMembers, userID, moreMembers string) string {
 		return fmt.Sprintf(`{"rp": {%s"name": "Example"}, "challenge": "AAECAwQFBgcICQoLDA0ODw",
 			"user": {"id": "%s", "name": "a", "displayName": "A"}, "pubKeyCredParams": [{"type": "public-key", "alg": -7}]%s}`,
-			rp, user, rest)
+			rpMembers, userID, moreMembers)
 	}
 	excluded := options(`"id": "example.com", `, "AA",
 		fmt.Sprintf(`, "excludeCredentials": [{"type": "public-key", "id": "%s"}]`, made.ID))
@@ -241,7 +243,7 @@ func TestInvalidCallsAreRejected(t *testing.T) {
 		{origin, options(`"id": "com", `, "AA", ""), "SecurityError", false},
 		{"http://example.com", options("", "AA", ""), "SecurityError", false},
 		{"https://127.0.0.1", options("", "AA", ""), "SecurityError", false},
-		// Options that lack required members, and options that are not JSON.
+		// Options without required members, and options that are not valid JSON.
 		{origin, `{"challenge": "AAECAwQFBgcICQoLDA0ODw"}`, "TypeError", false},
 		{origin, `{"rp": {"id": "example.com"}, "challenge": "AA", "user": {"id": "AA", "name": "a"}}`, "TypeError", false},
 		{origin, `{"rp": {"id": "example.com"}, "user": {"id": "AA"}}`, "TypeError", false},
@@ -256,12 +258,12 @@ func TestInvalidCallsAreRejected(t *testing.T) {
 			call = (*hidlog.Browser).Get
 		}
 		if _, err := call(browser, []byte(test.options)); !isDOMError(err, test.name) {
-			t.Errorf("%s: %v", test.options, err)
+			t.Errorf("expected %s for the options %s, got %v", test.name, test.options, err)
 		}
 	}
 }
 
-func TestFaults(t *testing.T) {
+func TestInjectedFaults(t *testing.T) {
 	key := newKey(t)
 	browser := key.Browser(origin)
 	text, err := browser.Create(create)
@@ -273,7 +275,7 @@ func TestFaults(t *testing.T) {
 	before := signCount(t, signIn())
 	key.Faults = hidlog.Faults{StaleSignCount: true}
 	if used := signIn(); signCount(t, used) != before || !hasValidSignature(t, made, used) {
-		t.Fatal("StaleSignCount: expected the previous signature counter and a valid signature")
+		t.Fatal("StaleSignCount: expected the previous response's signature counter and a valid signature")
 	}
 	key.Faults = hidlog.Faults{BadSignature: true}
 	if hasValidSignature(t, made, signIn()) {
@@ -294,11 +296,11 @@ func TestFaults(t *testing.T) {
 	}
 	key.Faults = hidlog.Faults{}
 	if used := signIn(); !hasValidSignature(t, made, used) || signCount(t, used) < before+5 {
-		t.Fatalf("without faults: expected a valid signature and a signature counter of at least %d", before+5)
+		t.Fatalf("no faults enabled: expected a valid signature and a signature counter of at least %d", before+5)
 	}
 }
 
-func TestCredentials(t *testing.T) {
+func TestAddAndRemoveCredentials(t *testing.T) {
 	key := newKey(t)
 	pair, err := ecdsa.GenerateKey(elliptic.P256(), rand.Reader)
 	if err != nil {
@@ -319,7 +321,7 @@ func TestCredentials(t *testing.T) {
 		t.Fatal(err)
 	}
 	if text, err = key.Browser(origin).Get(get); err != nil {
-		t.Fatalf("a sign-in after Add: %v", err)
+		t.Fatalf("Get failed after Add had power-cycled the key: %v", err)
 	}
 	if used := parseCredential(t, text, err); signCount(t, used) != 43 {
 		t.Fatal(string(text))
@@ -342,27 +344,27 @@ func TestCredentials(t *testing.T) {
 	}
 	again.Close()
 	if _, err := again.Tick(1); err != hidlog.ErrClosed || again.Add(bob) != hidlog.ErrClosed || again.Need().Kind != 0 {
-		t.Fatal("expected ErrClosed from calls on a closed authenticator")
+		t.Fatal("expected ErrClosed from Tick and Add, and no need, after Close")
 	}
 	second := hidlog.Credential{ID: hidlog.CredentialID{8}, RPIDHash: rp, UserID: []byte("bob"), Discoverable: true}
 	if err := key.Add(second); err == nil {
-		t.Fatal("expected an error for a second discoverable credential of the same user and RP")
+		t.Fatal("Add succeeded for a second discoverable credential with the same user handle and RP ID")
 	}
 	if err := key.Add(hidlog.Credential{UserID: make([]byte, 65)}); err == nil {
-		t.Fatal("expected an error for a user handle of 65 bytes")
+		t.Fatal("Add succeeded with a user handle of 65 bytes")
 	}
 	if err := key.Remove(hidlog.CredentialID{9}); err == nil {
-		t.Fatal("expected an error for removing a missing credential")
+		t.Fatal("Remove succeeded for a credential that is not on the key")
 	}
 	if err := key.Clear(); err != nil || len(key.Credentials()) != 0 || len(key.Recordings()) != 5 {
 		t.Fatal(err)
 	}
 	if _, err := hidlog.NewAuthenticator([]byte{1}); err == nil {
-		t.Fatal("expected an error for an invalid snapshot")
+		t.Fatal("NewAuthenticator succeeded with an invalid snapshot")
 	}
 }
 
-func TestAccounts(t *testing.T) {
+func TestBrowserSelectsAccount(t *testing.T) {
 	key := newKey(t)
 	browser := key.Browser(origin)
 	for _, user := range []string{"YQ", "Yg", "Yw"} {
@@ -384,20 +386,21 @@ func TestAccounts(t *testing.T) {
 	}
 }
 
-// If the key rejected a request, the error ends with the key's cause. The error of an injected status has no cause.
-func TestCauses(t *testing.T) {
+// TestErrorsEndWithCauses tests that a browser's error ends with the key's cause if the key rejected the request, and
+// has no cause if a status was injected.
+func TestErrorsEndWithCauses(t *testing.T) {
 	key := newKey(t)
 	browser := key.Browser(origin)
-	ends := func(call func([]byte) ([]byte, error), options []byte, cause string) {
+	expectCause := func(call func([]byte) ([]byte, error), options []byte, cause string) {
 		t.Helper()
 		_, err := call(options)
 		if !isDOMError(err, "NotAllowedError") || !strings.HasSuffix(err.Error(), ": "+cause) || key.Cause() != cause {
-			t.Fatalf("%v; cause %q, expected %q", err, key.Cause(), cause)
+			t.Fatalf("expected NotAllowedError with the cause %q, got %v and the cause %q", cause, err, key.Cause())
 		}
 	}
-	ends(browser.Get, get, "no discoverable credential of this RP on this key")
+	expectCause(browser.Get, get, "no discoverable credential of this RP on this key")
 	key.Presence = []hidlog.Presence{hidlog.PresenceDenied}
-	ends(browser.Create, create, "the user refused")
+	expectCause(browser.Create, create, "the user refused")
 	key.Presence = []hidlog.Presence{hidlog.PresenceGranted}
 	if _, err := browser.Create(create); err != nil || key.Cause() != "" {
 		t.Fatal(err, key.Cause())
@@ -409,22 +412,22 @@ func TestCauses(t *testing.T) {
 	}
 }
 
-// Tests an authenticator without a simulated user: packets, needs and time.
-func TestPackets(t *testing.T) {
+// TestAuthenticatorWithoutUser passes packets, times and user presence to an Authenticator, without a simulated user.
+func TestAuthenticatorWithoutUser(t *testing.T) {
 	key, err := hidlog.NewAuthenticator(nil)
 	if err != nil {
 		t.Fatal(err)
 	}
-	// The expected response to INIT on the broadcast channel (CTAP 2.1, section 11.2.9.1.3): nonce, channel ID, versions
-	// and capabilities.
+	// The request is INIT on the broadcast channel, with a nonce. The response has the nonce, a new channel ID,
+	// versions and capabilities (CTAP 2.1, section 11.2.9.1.3).
 	packet := hidlog.Packet{0xff, 0xff, 0xff, 0xff, 0x86, 0, 8, 1, 2, 3, 4, 5, 6, 7, 8}
 	sent, err := key.HandlePacket(0, packet)
 	expected := hidlog.Packet{0xff, 0xff, 0xff, 0xff, 0x86, 0, 17, 1, 2, 3, 4, 5, 6, 7, 8, 0, 0, 0, 1, 2, 1, 0, 0, 0x0c}
 	if err != nil || len(sent) != 1 || sent[0] != expected {
 		t.Fatal(err, sent)
 	}
-	// authenticatorSelection sends KEEPALIVEs while it waits for user presence, and returns 0x27 (OPERATION_DENIED) if
-	// the user refuses.
+	// On the request authenticatorSelection, the authenticator sends KEEPALIVEs while it waits for user presence, and
+	// then status 0x27 (OPERATION_DENIED), since the user refuses.
 	selection := hidlog.Packet{0, 0, 0, 1, 0x90, 0, 1, 0x0b}
 	if _, err = key.HandlePacket(10, selection); err != nil || key.Need().Kind != hidlog.NeedPresence {
 		t.Fatal(err, key.Need())
@@ -436,18 +439,18 @@ func TestPackets(t *testing.T) {
 		t.Fatal(err, sent)
 	}
 	if _, err = key.ProvidePresence(300, 3); err == nil {
-		t.Fatal("expected an error for the invalid presence 3")
+		t.Fatal("ProvidePresence succeeded with the invalid presence 3")
 	}
 	if _, err = key.ProvideSignature(300, make([]byte, 73)); err == nil {
-		t.Fatal("expected an error for a signature of 73 bytes")
+		t.Fatal("ProvideSignature succeeded with 73 bytes; the maximum is 72")
 	}
 	if _, err = key.Reject(300, hidlog.NeedPresence); err == nil {
-		t.Fatal("expected an error for Reject(NeedPresence)")
+		t.Fatal("Reject succeeded with NeedPresence, which it does not support")
 	}
 	checkRecordings(t, key)
 }
 
-func TestManyGoroutines(t *testing.T) {
+func TestKeysInManyGoroutines(t *testing.T) {
 	var group sync.WaitGroup
 	for count := 0; count < 8; count++ {
 		group.Add(1)

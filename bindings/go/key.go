@@ -17,10 +17,10 @@ import (
 	"unsafe"
 )
 
-// causeCapacity is the maximum length in bytes of the sentence that Cause returns (hidlog.h).
+// causeCapacity is the maximum length in bytes of the sentence that Cause returns: hidlog_key_cause in hidlog.h.
 const causeCapacity = 160
 
-// PacketSize is the length of a packet in bytes.
+// PacketSize is the length of a CTAPHID packet in bytes.
 const PacketSize = 64
 
 // CredentialID is a credential ID.
@@ -32,22 +32,24 @@ type Packet [PacketSize]byte
 // Presence is what the user does when the authenticator asks for a touch.
 type Presence int
 
-// The user touches the key, refuses to, or does nothing.
+// The user touches the key (PresenceGranted), refuses to (PresenceDenied), or does nothing until the authenticator's
+// timeout (PresenceTimedOut).
 const (
 	PresenceGranted Presence = iota
 	PresenceDenied
 	PresenceTimedOut
 )
 
-// String returns the word for the presence in a session log: granted, denied or timeout.
+// String returns the word that stands for p in a session log: granted, denied or timeout.
 func (p Presence) String() string {
 	return [...]string{"granted", "denied", "timeout"}[p]
 }
 
-// NeedKind is the kind of input that an authenticator needs from its caller.
+// NeedKind is the kind of input that an authenticator needs from its caller to continue a request.
 type NeedKind int
 
-// The authenticator needs nothing, user presence, a new key pair, or a signature.
+// Whether the authenticator needs nothing, user presence, a new key pair, or a signature. The values are those of enum
+// hidlog_need_kind.
 const (
 	NeedNone NeedKind = iota
 	NeedPresence
@@ -55,8 +57,8 @@ const (
 	NeedSignature
 )
 
-// Need is what an authenticator needs from its caller to continue a request. For NeedSignature, ID is the credential
-// ID, and ToSign has the bytes to sign with ECDSA and SHA-256; the signature is in DER.
+// Need is what an authenticator needs from its caller to continue a request. ID and ToSign are set only if Kind is
+// NeedSignature: then sign ToSign (ECDSA with SHA-256, in DER) with the private key of the credential whose ID is ID.
 type Need struct {
 	Kind   NeedKind
 	ID     CredentialID
@@ -74,23 +76,24 @@ type Credential struct {
 	SignCount    uint32
 }
 
-// Recording is a session log, and the snapshot of the credentials at its start, if any. `hidlog check --load SNAPSHOT
-// LOG` checks a recording.
+// Recording is the log of a session, and the snapshot of the credentials with which the session started (empty if it
+// started without a snapshot). `hidlog check --load SNAPSHOT LOG` checks a recording.
 type Recording struct {
 	Snapshot []byte
 	Log      []byte
 }
 
-// Authenticator is the verified core alone: packets and replies in, packets out. Times are milliseconds since power-up.
-// Every input is recorded, except one that returns an error, which does not change the authenticator. The methods may
-// be called from several goroutines.
+// Authenticator is the formally verified core, without private keys and without a simulated user. The caller passes in
+// the host's packets, and user presence, key pairs and signatures when they are needed; the authenticator returns
+// packets for the host. Times are milliseconds since power-up. Each input is recorded. If a method returns an error,
+// its input is not recorded, and the authenticator is unchanged. The methods may be called from several goroutines.
 type Authenticator struct {
 	mutex      sync.Mutex
 	key        *C.struct_hidlog_key
 	recordings []Recording
 }
 
-// ErrClosed is returned by the methods of a closed Authenticator that return an error.
+// ErrClosed is the error that an Authenticator's methods return after Close.
 var ErrClosed = errors.New("hidlog: the authenticator is closed")
 
 var errorTexts = map[C.int32_t]string{
@@ -104,25 +107,26 @@ var errorTexts = map[C.int32_t]string{
 	C.HIDLOG_KEY_ERR_BAD_CREDENTIAL:   "the snapshot has an invalid credential",
 }
 
-// toError converts a return value of the library to an error, or to nil.
-func toError(what string, status C.int32_t) error {
+// toError converts the return value of a C function to a Go error. Negative values are error codes (enum
+// hidlog_key_error); toError returns nil for other values. operation is named in the error message.
+func toError(operation string, status C.int32_t) error {
 	if status >= 0 {
 		return nil
 	}
 	text := errorTexts[status]
 	if text == "" {
-		text = fmt.Sprintf("error %d", status)
+		text = fmt.Sprintf("unknown error code %d of the C library", status)
 	}
-	return fmt.Errorf("hidlog: %s: %s", what, text)
+	return fmt.Errorf("hidlog: %s: %s", operation, text)
 }
 
 // NewAuthenticator returns an authenticator with the credentials of a snapshot, or without credentials if the snapshot
-// is empty. Close frees the authenticator's memory, as does the garbage collector.
+// is empty. Close frees its memory; without a call of Close, the garbage collector does.
 func NewAuthenticator(snapshot []byte) (*Authenticator, error) {
 	a := &Authenticator{recordings: []Recording{{Snapshot: clone(snapshot)}}}
 	a.key = (*C.struct_hidlog_key)(C.calloc(1, C.sizeof_struct_hidlog_key))
-	// The library needs memory aligned to 16 bytes, as malloc returns on the platforms with a prebuilt library. The
-	// portable library needs no alignment.
+	// The prebuilt library needs memory aligned to 16 bytes. On the platforms that have a prebuilt library, malloc
+	// always returns such memory. The portable library needs no alignment.
 	a.key.memory = C.malloc(C.hidlog_key_size())
 	var aaguid [16]C.uint8_t
 	status := C.hidlog_key_init(a.key, &aaguid[0], 0, firstByte(snapshot), C.size_t(len(snapshot)))
@@ -154,8 +158,8 @@ func (a *Authenticator) Close() {
 	}
 }
 
-// handleInput passes an input to the library with call, appends its log line to the recording, and returns the packets
-// that the authenticator sends.
+// handleInput calls call, which must pass an input to the C library, and returns the packets that the authenticator
+// sends. It appends line, the input's line in the log, and the lines of these packets to the recording.
 func (a *Authenticator) handleInput(line string, call func() C.int32_t) ([]Packet, error) {
 	a.mutex.Lock()
 	defer a.mutex.Unlock()
@@ -176,7 +180,7 @@ func (a *Authenticator) handleInput(line string, call func() C.int32_t) ([]Packe
 	return sent, nil
 }
 
-// addComment appends a comment to the recording.
+// addComment appends a comment line to the log of the current recording.
 func (a *Authenticator) addComment(text string) {
 	a.mutex.Lock()
 	defer a.mutex.Unlock()
@@ -191,17 +195,18 @@ func (a *Authenticator) HandlePacket(timeMs uint64, packet Packet) ([]Packet, er
 	})
 }
 
-// Tick advances the time, and returns the packets sent.
+// Tick tells the authenticator the current time, so that it can handle timeouts and send KEEPALIVEs, and returns the
+// packets that it sends.
 func (a *Authenticator) Tick(timeMs uint64) ([]Packet, error) {
 	return a.handleInput(fmt.Sprintf("t %d", timeMs), func() C.int32_t {
 		return C.hidlog_key_tick(a.key, C.uint64_t(timeMs))
 	})
 }
 
-// ProvidePresence reports what the user did when asked for a touch.
+// ProvidePresence tells an authenticator that needs user presence (NeedPresence) what the user did.
 func (a *Authenticator) ProvidePresence(timeMs uint64, presence Presence) ([]Packet, error) {
 	if presence < PresenceGranted || presence > PresenceTimedOut {
-		return nil, fmt.Errorf("hidlog: presence must be PresenceGranted, PresenceDenied or PresenceTimedOut, not %d",
+		return nil, fmt.Errorf("hidlog: invalid presence %d; expected PresenceGranted, PresenceDenied or PresenceTimedOut",
 			int(presence))
 	}
 	return a.handleInput(fmt.Sprintf("p %d %s", timeMs, presence), func() C.int32_t {
@@ -209,7 +214,8 @@ func (a *Authenticator) ProvidePresence(timeMs uint64, presence Presence) ([]Pac
 	})
 }
 
-// ProvideKeyPair provides a new key pair: the credential ID and the public key on P-256.
+// ProvideKeyPair provides a new key pair: the ID of the new credential, and the coordinates of its public key on P-256.
+// The caller keeps the private key.
 func (a *Authenticator) ProvideKeyPair(timeMs uint64, id CredentialID, x, y [32]byte) ([]Packet, error) {
 	return a.handleInput(fmt.Sprintf("k %d %x %x %x", timeMs, id, x, y), func() C.int32_t {
 		return C.hidlog_key_provide_key_pair(a.key, C.uint64_t(timeMs), firstByte(id[:]), firstByte(x[:]), firstByte(y[:]))
@@ -226,7 +232,8 @@ func (a *Authenticator) ProvideSignature(timeMs uint64, signature []byte) ([]Pac
 	})
 }
 
-// Reject reports that the caller cannot provide a key pair (NeedKeyPair) or a signature (NeedSignature).
+// Reject tells the authenticator that the caller cannot provide a key pair (NeedKeyPair) or a signature
+// (NeedSignature).
 func (a *Authenticator) Reject(timeMs uint64, need NeedKind) ([]Packet, error) {
 	switch need {
 	case NeedKeyPair:
@@ -238,13 +245,14 @@ func (a *Authenticator) Reject(timeMs uint64, need NeedKind) ([]Packet, error) {
 			return C.hidlog_key_refuse_signature(a.key, C.uint64_t(timeMs))
 		})
 	default:
-		return nil, fmt.Errorf("hidlog: Reject needs NeedKeyPair or NeedSignature, not %d; "+
-			"to deny presence, call ProvidePresence with PresenceDenied", int(need))
+		return nil, fmt.Errorf("hidlog: Reject must be called with NeedKeyPair or NeedSignature, not %d; "+
+			"to deny user presence, call ProvidePresence with PresenceDenied", int(need))
 	}
 }
 
-// Cause returns why the authenticator rejected its last input with an ERROR packet, or with a status other than 0. The
-// cause is a sentence without a full stop. It is empty after power-up, and if the input was not rejected.
+// Cause returns why the authenticator responded to its last input with an ERROR packet or with a status other than 0,
+// as a sentence without a full stop. Cause returns an empty string if there was no such response, or no input since
+// power-up.
 func (a *Authenticator) Cause() string {
 	a.mutex.Lock()
 	defer a.mutex.Unlock()
@@ -257,7 +265,7 @@ func (a *Authenticator) Cause() string {
 	return string(text[:max(0, int(length))])
 }
 
-// Need returns what the authenticator needs now.
+// Need returns what the authenticator needs from the caller now.
 func (a *Authenticator) Need() Need {
 	a.mutex.Lock()
 	defer a.mutex.Unlock()

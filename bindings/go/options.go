@@ -5,33 +5,37 @@ import "C"
 
 import "strings"
 
-// Verification is the result of user verification.
+// Verification selects how a key handles user verification.
 type Verification byte
 
-// The key has no user verification, or user verification succeeds or fails.
+// User verification is not supported (VerificationNone), always succeeds (VerificationVerified), or always fails
+// (VerificationFailed).
 const (
 	VerificationNone Verification = iota
 	VerificationVerified
 	VerificationFailed
 )
 
-// AuthenticatorOptions are the properties of a key that browsers report or depend on. They are outside the verified
-// core: the recording has a comment on each response that they change, and still passes `hidlog check`.
+// AuthenticatorOptions are properties that the verified core does not have, such as user verification. Browsers use
+// them to check a page's options, and change the core's responses accordingly. The recording has the core's own
+// responses, with a comment for each change, so it still passes `hidlog check`.
 type AuthenticatorOptions struct {
-	// Verification is the result of user verification.
+	// Verification selects how the key handles user verification.
 	Verification Verification
 	// Platform, if true, makes the key a platform authenticator; otherwise it is a USB key.
 	Platform bool
-	// NoResidentKeys, if true, keeps browsers from creating discoverable credentials.
+	// NoResidentKeys, if true, makes the key one that does not support discoverable credentials.
 	NoResidentKeys bool
-	// BackupEligible and BackedUp are the flags BE and BS of new credentials.
+	// BackupEligible and BackedUp are the values of the flags BE (backup eligibility) and BS (backup state) in the
+	// authenticator data of credentials that are created from now on.
 	BackupEligible, BackedUp bool
-	// NoAttestation, if true, replaces self attestation with the attestation statement format "none".
+	// NoAttestation, if true, replaces the self attestation of registrations with the attestation statement format
+	// "none".
 	NoAttestation bool
 }
 
-// abilities returns the flags of enum hidlog_client_ability.
-func (o AuthenticatorOptions) abilities() C.uint32_t {
+// clientAbilities returns the options as flags of enum hidlog_client_ability (hidlog.h).
+func (o AuthenticatorOptions) clientAbilities() C.uint32_t {
 	abilities := [...]C.uint32_t{0, C.HIDLOG_CLIENT_VERIFIES, C.HIDLOG_CLIENT_VERIFICATION_FAILS}[o.Verification]
 	if o.Platform {
 		abilities |= C.HIDLOG_CLIENT_PLATFORM
@@ -42,7 +46,7 @@ func (o AuthenticatorOptions) abilities() C.uint32_t {
 	return abilities
 }
 
-// backupFlags returns the flags BE and BS of a new credential.
+// backupFlags returns the flags BE and BS for a new credential, as bits of the authenticator data's flags.
 func (o AuthenticatorOptions) backupFlags() byte {
 	flags := byte(0)
 	if o.BackupEligible {
@@ -54,7 +58,7 @@ func (o AuthenticatorOptions) backupFlags() byte {
 	return flags
 }
 
-// flagNames returns the names of flags, separated by commas.
+// flagNames returns the names of the flags that are set, separated by commas: UV, BE and BS.
 func flagNames(flags byte) string {
 	var names []string
 	for _, flag := range []struct {

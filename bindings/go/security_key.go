@@ -13,7 +13,7 @@ import (
 	"time"
 )
 
-// CTAPHID commands, with bit 7 set, which marks initialization packets (CTAP 2.1, section 11.2.4).
+// CTAPHID commands as an initialization packet has them: with bit 7 set (CTAP 2.1, section 11.2.4).
 const (
 	commandInit      = 0x80 | hidINIT
 	commandCBOR      = 0x80 | hidCBOR
@@ -21,36 +21,37 @@ const (
 	commandError     = 0x80 | hidERROR
 )
 
-// Faults are injected into responses, to test how a service handles invalid responses. The faults are injected outside
-// the authenticator, so its recordings still pass `hidlog check`.
+// Faults selects errors to inject into the key's responses, to test how a relying party handles invalid responses. They
+// are injected after the authenticator has responded, so its recordings still pass `hidlog check`.
 type Faults struct {
-	// Status, if not 0, is the status of every response.
+	// Status, if not 0, replaces the CTAP status of every response.
 	Status byte
-	// BadSignature, if true, signs with a different private key.
+	// BadSignature, if true, makes signatures invalid: they are made with a different private key.
 	BadSignature bool
-	// StaleSignCount, if true, repeats the signature counter of the credential's previous response, with a valid
-	// signature.
+	// StaleSignCount, if true, keeps the signature counter at its value in the credential's previous response. The
+	// signature is valid.
 	StaleSignCount bool
-	// WrongRPID, if not empty, is the RP ID whose hash replaces the one in the authenticator data, with a valid signature.
+	// WrongRPID, if not empty, is another RP ID, whose hash replaces the RP ID hash in the authenticator data. The
+	// signature is valid.
 	WrongRPID string
 	// TruncateBy is the number of bytes to remove from the end of the authenticator data after signing.
 	TruncateBy int
 }
 
-// SecurityKey is an authenticator with private keys and a simulated user. Clients send messages to it. Use it
-// and its browsers from one goroutine at a time: unlike those of the embedded Authenticator, its methods aren't all
-// synchronized.
+// SecurityKey is an authenticator with private keys and a simulated user. Send requests to it with Exchange, or with a
+// Browser. Use the key and its browsers from one goroutine at a time: only the methods of the embedded Authenticator
+// may be called from several goroutines.
 type SecurityKey struct {
 	*Authenticator
-	// Presence is the sequence of what the user does when the key asks for a touch. The last element is repeated. If the
-	// sequence is empty, the user always touches the key.
+	// Presence is what the user does each time the key asks for a touch, in order; the last element is repeated. If
+	// Presence is empty, the user always touches the key.
 	Presence []Presence
 	// Faults are the faults to inject.
 	Faults Faults
-	// Options are the properties that browsers report or depend on.
+	// Options are properties that the verified core does not have, such as user verification.
 	Options AuthenticatorOptions
 
-	mutex       sync.Mutex // held during Exchange, and while a call is added
+	mutex       sync.Mutex // held during Exchange and addCall
 	poweredUp   time.Time
 	privateKeys map[CredentialID]*ecdsa.PrivateKey
 	channel     [4]byte                 // 0 if none is allocated; a power cycle frees channels
@@ -62,7 +63,7 @@ type SecurityKey struct {
 // Status is the CTAP2 status code with which a key rejected a request.
 type Status byte
 
-// Error returns the status code and the code's name.
+// Error returns a message with the status code and the code's name.
 func (s Status) Error() string {
 	return strings.TrimSpace(fmt.Sprintf("hidlog: the key returned status %02x %s", byte(s), statusNames[s]))
 }
@@ -82,6 +83,7 @@ func NewSecurityKey() (*SecurityKey, error) {
 	}, nil
 }
 
+// nowMs returns the time since the key's power-up in milliseconds.
 func (k *SecurityKey) nowMs() uint64 {
 	return uint64(time.Since(k.poweredUp).Milliseconds())
 }
@@ -95,7 +97,7 @@ func (k *SecurityKey) PrivateKey(id CredentialID) *ecdsa.PrivateKey {
 // public key.
 func (k *SecurityKey) AddWithPrivateKey(credential Credential, privateKey *ecdsa.PrivateKey) error {
 	if privateKey == nil || privateKey.Curve != elliptic.P256() {
-		return errors.New("hidlog: the private key must be on P-256")
+		return errors.New("hidlog: the private key must be an ECDSA key on P-256")
 	}
 	privateKey.X.FillBytes(credential.X[:])
 	privateKey.Y.FillBytes(credential.Y[:])
@@ -106,8 +108,8 @@ func (k *SecurityKey) AddWithPrivateKey(credential Credential, privateKey *ecdsa
 	return nil
 }
 
-// Add adds a credential, or replaces the one with the same ID. If the key has no private key for this ID, it cannot sign
-// with the credential; use AddWithPrivateKey.
+// Add adds a credential, or replaces the one with the same ID. If the key has no private key for this ID, it cannot
+// sign with the credential; use AddWithPrivateKey.
 func (k *SecurityKey) Add(credential Credential) error {
 	k.channel = [4]byte{}
 	return k.Authenticator.Add(credential)
@@ -170,8 +172,9 @@ func sign(privateKey *ecdsa.PrivateKey, toSign []byte) ([]byte, error) {
 	return ecdsa.SignASN1(rand.Reader, privateKey, digest[:])
 }
 
-// provideNeeds provides what the authenticator needs until it needs nothing, and returns all packets sent. The
-// parameters are the packets and the error that the last input returned.
+// provideNeeds gives the authenticator what it needs until it needs nothing more, and returns all packets that the
+// authenticator sent. The parameters are the results of the input before: the packets already sent, and an error that
+// provideNeeds returns at once if it is not nil.
 func (k *SecurityKey) provideNeeds(sent []Packet, err error) ([]Packet, error) {
 	for err == nil {
 		var more []Packet
@@ -191,7 +194,7 @@ func (k *SecurityKey) provideNeeds(sent []Packet, err error) ([]Packet, error) {
 	return nil, err
 }
 
-// transact sends a message on a channel, and returns the response's command and data.
+// transact sends a CTAPHID message on a channel, and returns the command and the data of the response message.
 func (k *SecurityKey) transact(channel [4]byte, command byte, data []byte) (byte, []byte, error) {
 	var sent []Packet
 	for _, packet := range fragment(channel, command, data) {
@@ -204,7 +207,7 @@ func (k *SecurityKey) transact(channel [4]byte, command byte, data []byte) (byte
 	return reassemble(channel, sent)
 }
 
-// fragment splits a message into packets.
+// fragment splits a CTAPHID message into an initialization packet and continuation packets.
 func fragment(channel [4]byte, command byte, data []byte) []Packet {
 	var packet Packet
 	copy(packet[:], channel[:])
@@ -222,8 +225,8 @@ func fragment(channel [4]byte, command byte, data []byte) []Packet {
 	return found
 }
 
-// reassemble reassembles the message that was sent on a channel, skipping KEEPALIVEs, and returns the message's command
-// and data.
+// reassemble joins the packets of the message that the key sent on a channel, and returns the message's command and
+// data. It skips KEEPALIVEs and packets on other channels.
 func reassemble(channel [4]byte, sent []Packet) (command byte, data []byte, err error) {
 	length := -1
 	for _, packet := range sent {
@@ -238,12 +241,12 @@ func reassemble(channel [4]byte, sent []Packet) (command byte, data []byte, err 
 		}
 	}
 	if length < 0 || len(data) < length {
-		return 0, nil, errors.New("hidlog: incomplete response from the key")
+		return 0, nil, errors.New("hidlog: the key sent no response, or only part of one")
 	}
 	return command, data[:length], nil
 }
 
-// openChannel allocates a channel.
+// openChannel sends INIT on the broadcast channel, and stores the channel ID that the key allocates.
 func (k *SecurityKey) openChannel() error {
 	var nonce [8]byte
 	if _, err := rand.Read(nonce[:]); err != nil {
@@ -257,8 +260,8 @@ func (k *SecurityKey) openChannel() error {
 	return nil
 }
 
-// causeSuffix returns a suffix for an error message: a colon and the cause, if the key rejected its last request and no
-// status is injected, or an empty string.
+// causeSuffix returns the end of an error message: a colon and the key's cause if the key rejected its last request, or
+// an empty string if it did not or if a status is injected (Faults.Status).
 func (k *SecurityKey) causeSuffix() string {
 	if cause := k.Cause(); cause != "" && k.Faults.Status == 0 {
 		return ": " + cause
@@ -266,14 +269,14 @@ func (k *SecurityKey) causeSuffix() string {
 	return ""
 }
 
-// Exchange sends an authenticator command and its CBOR parameters, and returns the response after the status byte. The
-// error is a Status if the status is not 0; Cause says why, unless the status is injected. Of the Faults, only Status
-// is injected here, and the others by browsers.
+// Exchange sends a CTAP2 request, and returns the response without its status byte. The request is the byte of the
+// authenticator command, followed by its CBOR parameters. If the status byte is not 0, the error is a Status, and Cause
+// returns why the key rejected the request. Exchange injects only the fault Status; a Browser injects the other Faults.
 func (k *SecurityKey) Exchange(request []byte) ([]byte, error) {
 	k.mutex.Lock()
 	defer k.mutex.Unlock()
 	if len(request) == 0 || len(request) > longestMessage {
-		return nil, fmt.Errorf("hidlog: a request must have 1 to %d bytes, not %d", longestMessage, len(request))
+		return nil, fmt.Errorf("hidlog: a request must have 1 to %d bytes, but it has %d", longestMessage, len(request))
 	}
 	if k.channel == [4]byte{} {
 		if err := k.openChannel(); err != nil {
@@ -285,10 +288,10 @@ func (k *SecurityKey) Exchange(request []byte) ([]byte, error) {
 		return nil, err
 	}
 	if command == commandError {
-		return nil, fmt.Errorf("hidlog: the key returned CTAPHID_ERROR with the data %x", data)
+		return nil, fmt.Errorf("hidlog: the key responded with CTAPHID_ERROR and the error code %x", data)
 	}
 	if len(data) == 0 {
-		return nil, errors.New("hidlog: the key returned an empty response")
+		return nil, errors.New("hidlog: the key's response is empty: it has no status byte")
 	}
 	if k.Faults.Status != 0 {
 		return nil, Status(k.Faults.Status)

@@ -1,9 +1,11 @@
 #!/usr/bin/env bash
-# Builds the wheels and the sdist of the package hidlog from src/ and release/: bindings/python/build.sh DIR
+# Builds the wheels and the source distribution (sdist) of the Python package hidlog in DIR: bindings/python/build.sh
+# DIR
 #
 # Builds are reproducible. Needs hatchling (apt-get install python3-hatchling). The wheel for aarch64 needs lld or
-# binutils-aarch64-linux-gnu. The wheel for Windows needs HIDLOG_PORTABLE, a folder with the portable library's sources
-# and hidlog.dll (bindings/c/build.sh). A wheel whose dependencies are missing is skipped.
+# binutils-aarch64-linux-gnu. The wheel for Windows needs the environment variable HIDLOG_PORTABLE: a folder with the
+# portable library's sources and hidlog.dll, such as SOURCES_DIR of bindings/c/build.sh. A wheel is skipped if what it
+# needs is missing.
 set -euo pipefail
 [ $# = 1 ] || { echo "usage: bindings/python/build.sh DIR" >&2; exit 2; }
 mkdir -p "$1"
@@ -15,7 +17,7 @@ for python in python3 /usr/bin/python3; do
 done
 [ -n "$python" ] ||
     { echo "bindings/python/build.sh: hatchling is missing (apt-get install python3-hatchling)" >&2; exit 3; }
-# All files get the same timestamp, for reproducible builds.
+# Give all files in the packages this timestamp, so that builds are reproducible.
 export SOURCE_DATE_EPOCH="${SOURCE_DATE_EPOCH:-315532800}" PYTHONDONTWRITEBYTECODE=1
 umask 022
 
@@ -28,7 +30,7 @@ HIDLOG_PROCESSOR=x86_64 build_distribution -t wheel
 if command -v ld.lld >/dev/null || command -v aarch64-linux-gnu-ld >/dev/null; then
     HIDLOG_PROCESSOR=aarch64 build_distribution -t wheel
 else
-    echo "bindings/python/build.sh: lld is missing, skipping the aarch64 wheel (apt-get install lld)" >&2
+    echo "bindings/python/build.sh: skipping the wheel for aarch64, since no linker for aarch64 was found (apt-get install lld)" >&2
 fi
 if [ -e "${HIDLOG_PORTABLE-}/hidlog.dll" ]; then
     HIDLOG_PROCESSOR=win_amd64 build_distribution -t wheel

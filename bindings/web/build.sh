@@ -1,13 +1,16 @@
 #!/usr/bin/env bash
-# Generates the scripts of this folder: wasm.js with the example log, since a page opened from a file cannot fetch it,
-# key/version.js, and the bundles of dist/: the key with the WebAssembly module, the code that the key shares with the
-# viewer, and the code of the page and of its worker, with the rules of `judge`.
+# Generates scripts in this folder:
+#     wasm.js           the example log, since a page that is opened from a file cannot fetch it. In a page that the user
+#                       saves, this script has the WebAssembly module instead
+#     key/version.js    the version
+#     dist/             bundles: the security key with the WebAssembly module, the code that the key shares with the
+#                       page, and the code of the page and its worker, with the rules of `hidlog judge`
 #
 #     bindings/web/build.sh            writes the scripts
 #     bindings/web/build.sh --check    exits with 1 if one of them is out of date
 #
-# esbuild bundles and minifies the sources. The output differs between versions of esbuild, so Debian 12's version is
-# required. Exits with 3 if esbuild is missing.
+# Needs esbuild 0.17, the version in Debian 12, which bundles and minifies the sources: other versions write other
+# output. Exits with 3 if it is missing.
 set -euo pipefail
 export PYTHONDONTWRITEBYTECODE=1
 cd "$(dirname "${BASH_SOURCE[0]}")/../.."
@@ -30,11 +33,12 @@ else
     cat "$work/version.js" >bindings/web/key/version.js
 fi
 python3 bindings/web/embed.py example examples/service_registration.log >"$work/wasm.js"
-# The modules of the key import release/hidlog.wasm. Here the import is replaced by a module with the compressed bytes.
+# The key's modules import release/hidlog.wasm. Replace it with a script that contains the module's compressed bytes.
 cp -r bindings/web/key "$work/bindings/web"
 python3 bindings/web/pack.py release/hidlog.wasm bindings/web/dist/security_key.js >"$work/release/hidlog.wasm"
 
-# Bundles modules into one classic script, which sets a global variable unless it exists: bundle GLOBAL MODULE..
+# Bundles modules into one classic script, and prints the script. It sets the global variable GLOBAL, unless the
+# variable exists already: bundle GLOBAL MODULE ..
 bundle() {
     local global=$1
     shift
@@ -47,7 +51,7 @@ globalThis.$global ??= (() => { \"use strict\";" --footer:js="return $global; })
 bundle hidlogBytes bytes.js standard.js inflate.js >"$work/dist/bytes.js"
 bundle hidlogWasmKey wasm_key.js >"$work/dist/wasm_key.js"
 bundle hidlogKey index.js >"$work/dist/security_key.js"
-# The rules of `judge`, translated from Python, are appended to their runtime.
+# The rules of `hidlog judge`: the JavaScript functions that they call, and then the rules, translated from Python.
 rules=(text hid_packets ctap_cbor certificates answers rules
     requests transactions check_credential_management judged_log judged_parts judged_stored judged_settings judged_u2f
     judged_statuses judged_answers judged_host judged_errors judged_missing judged_key judged_report)
@@ -55,8 +59,8 @@ rules=(text hid_packets ctap_cbor certificates answers rules
     cat bindings/web/rules/python.js bindings/web/rules/python_calls.js bindings/web/rules/keys.js
     python3 bindings/web/rules/translate.py conformance/hidlog_conformance "${rules[@]}"
 } >"$work/dist/judge.js"
-# The minified code of the page, which the page needs to save itself and to start its worker. Class names are kept,
-# since the rules print them.
+# The files of the page, minified, as texts in dist/sources.js. The page uses them to save itself as a file and to start
+# its worker. Class names of the rules are not minified, since the rules print them.
 sources=(
     index.html viewer.css dist/bytes.js captures.js file_kinds.js file_input.js core.js log.js
     transactions.js session.js explain.js show_text.js difference.js cbor_spans.js fields.js field_tree.js hex_pane.js

@@ -55,7 +55,7 @@
     /** The explanations of a log's lines, as far as they are known. */
     class Explained {
         /**
-         * `isLast` is whether no further output follows.
+         * `isLast` is true if the core produces no further output.
          * @param {Viewer.OutputIndex} index
          * @param {boolean} isLast
          */

@@ -1,12 +1,12 @@
-// Finds out whether a recording is incomplete (the end, the beginning or packets of the host are missing), if this
-// explains a difference from what the key sends, or a violated rule. Sets `globalThis.hidlogIncomplete`.
+// Finds out whether an incomplete recording (without its end, its beginning or packets of the host) is the reason for a
+// difference from what the key sends, or for a violated rule. Sets `globalThis.hidlogIncomplete`.
 "use strict";
 
 (() => {
     const { KIND, COMMANDS: { ERROR, INIT } } = globalThis.hidlogLog;
     // The ERROR code for an invalid channel, and the broadcast channel.
     const [ERR_INVALID_CHANNEL, BROADCAST] = [0x0b, 0xffffffff];
-    // What the rule on requests on a channel that was not allocated expects (judged_host.py).
+    // The member `expected` of a finding about a request on a channel that was not allocated (judged_host.py).
     const INVALID_CHANNEL = "error 0b";
     // Data bytes of an initialization and of a continuation packet; packets and bytes of the longest message (CTAP 2.1,
     // 11.2.4).

@@ -333,7 +333,7 @@
     let opening = Promise.resolve();
 
     /**
-     * Lets the following files wait for a promise.
+     * Opens further files only after a promise has settled.
      * @param {Promise<unknown>} promise
      */
     const waitFor = (promise) => {

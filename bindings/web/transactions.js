@@ -32,7 +32,7 @@
         }
 
         /**
-         * Fills until a time (performance.now()), or the end.
+         * Fills the tables until the end of the output or until a time, as performance.now() returns it.
          * @param {number} end
          */
         fillUntil(end) {

@@ -1,4 +1,4 @@
-//! Links the system's OpenSSL if the feature `openssl` is enabled.
+//! Links the crate with the system's OpenSSL (libcrypto) if the feature `openssl` is enabled.
 
 fn main() {
     if std::env::var_os("CARGO_FEATURE_OPENSSL").is_some() {

@@ -26,7 +26,7 @@ const SHOWN_OPTIONS = {
     get: ["rpId", "userVerification", "timeout", "challenge", "allowCredentials"],
 };
 const LIST_OPTIONS = ["excludeCredentials", "allowCredentials"];
-// Options that are left out if the page did not pass them.
+// Options that the report omits if the page did not pass them. Other absent options are reported as absent.
 const RARE_OPTIONS = ["requireResidentKey", "authenticatorAttachment", "attestation", "timeout"];
 const FAULT_LINE = /^# fault: (.*)$/gm;
 

@@ -67,7 +67,7 @@ export const checkValues = ({ signCount, userName, userDisplayName, ...booleans 
 };
 
 export class Credentials {
-    /** @type {Map<string, Labels>} names that the core does not store, by credential ID */
+    /** @type {Map<string, Labels>} RP IDs and full names, by credential ID in hex (the core has the hash of the RP ID and a shortened user name) */
     #labels = new Map();
 
     /**
@@ -118,8 +118,8 @@ export class Credentials {
     }
 
     /**
-     * Returns the row of a credential from `fromRow`, and stores what the core does not: its private key, names and
-     * metadata.
+     * Returns the row of a credential from `fromRow`. Stores the private key, the names and the metadata here, since the
+     * core does not.
      * @param {import("./state.js").StoredCredential} credential @param {Uint8Array} rpIdHash @param {Uint8Array} id
      */
     toRow(credential, rpIdHash, id) {

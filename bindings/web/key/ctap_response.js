@@ -40,7 +40,7 @@ export const encodeMap = (members) => concatBytes(encodeHead(MAP, members.length
  * @typedef {object} Change
  * @property {Uint8Array} original the authenticator data of the core
  * @property {Uint8Array} data what replaces it
- * @property {string[]} faults what faults changed
+ * @property {string[]} faults descriptions of the changes that injected faults made
  * @property {{ format: string, members: Uint8Array }} [statement] the attestation of a registration, encoded
  * @property {Uint8Array} [signature] the signature of a sign-in
  */

@@ -185,7 +185,7 @@ const readCompressedBlock = (reader, output, [literals, distances]) => {
 };
 
 /**
- * Unpacks DEFLATE data that follows the unpacked length as a big-endian number of four bytes.
+ * Decompresses DEFLATE data. The first 4 bytes of `packed` are the uncompressed length, big-endian.
  * @param {Uint8Array} packed
  */
 export const unpack = (packed) => {

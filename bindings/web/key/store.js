@@ -105,8 +105,9 @@ export class Store {
             this.#version = Math.max(this.#version, stored.version ?? 0);
             return stored;
         } catch (error) {
-            throw new TypeError(`storage already has another value under "${STORAGE_KEY}" (${/** @type {Error} */ (error).message}); to remove`
-                + ` it, call removeItem("${STORAGE_KEY}")`, { cause: error });
+            const { message } = /** @type {Error} */ (error);
+            throw new TypeError(`storage has an invalid state of a key under "${STORAGE_KEY}" (${message}); to remove it, call`
+                + ` removeItem("${STORAGE_KEY}")`, { cause: error });
         }
     }
 

@@ -72,7 +72,7 @@ export class User {
     }
 
     /**
-     * Waits until presence changes.
+     * Waits until the test sets the option `presence`.
      * @param {AbortSignal} signal
      */
     #changed(signal) {

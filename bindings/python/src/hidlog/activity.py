@@ -256,7 +256,7 @@ def _format_call(call: _Call, names: Mapping[str, str], kinds: Mapping[str, str]
 
 
 def _format_effects(effects: list[str] | tuple[str, ...]) -> list[str]:
-    """Describes what faults changed, in a line for each text."""
+    """Describes the changes that injected faults made, one per line."""
     return [f"fault: {text}" + (f" ({count} times)" if count > 1 else "") for text, count in Counter(effects).items()]
 
 

@@ -11,7 +11,7 @@ class Change(NamedTuple):
     """A change to the next response with authenticator data.
 
     original, data   the core's authenticator data, and what replaces it.
-    faults           descriptions of what faults changed.
+    faults           descriptions of the changes that injected faults made.
     statement        format and members of the attestation of a registration, if not the core's.
     signature        the signature of a sign-in, if not the core's.
     """

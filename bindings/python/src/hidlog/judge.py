@@ -40,7 +40,7 @@ _COLLECTED_OBJECTS = 20_000
 
 
 class CheckedSession(NamedTuple):
-    """A checked session: the name, and the `Recording` of judged_log with the findings."""
+    """A checked session: the name, and the `JudgedRecording` of judged_log with the findings."""
 
     name: str
     recording: Any

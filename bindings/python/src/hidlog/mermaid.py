@@ -5,6 +5,7 @@ from __future__ import annotations
 
 import argparse
 import json
+import os
 import re
 import subprocess
 import sys
@@ -20,6 +21,7 @@ Json = dict[str, Any]
 # Characters that have a meaning in Mermaid's texts.
 _SPECIAL_CHARACTERS = re.compile(r"[#;:<>{}\[\]\"`\n]")
 _NAMED_COMMANDS = ("INIT", "PING", "ERROR")
+_READ_BYTES = 1 << 16
 
 
 def _escape(*parts: object) -> str:
@@ -62,6 +64,15 @@ def to_mermaid(entries: Iterable[Json]) -> str:
     return "".join(iter_mermaid(entries))
 
 
+def _read_lines(number: int) -> Iterator[bytes]:
+    """Yields the complete lines of a pipe. The last line may be incomplete if the program that writes failed. A failing
+    read is an error; for a BufferedReader, EAGAIN is the end."""
+    rest = b""
+    while piece := os.read(number, _READ_BYTES):
+        *lines, rest = (rest + piece).split(b"\n")
+        yield from lines
+
+
 def main(args: list[str] | None = None) -> int:
     """Runs `hidlog mermaid`."""
     parser = argparse.ArgumentParser(
@@ -71,8 +82,7 @@ def main(args: list[str] | None = None) -> int:
     options = parser.parse_args(args)
     with subprocess.Popen([find_program(), "show", "--json", options.file], stdout=subprocess.PIPE) as ran:
         assert ran.stdout
-        # The last line may be incomplete if the program failed.
-        entries = (json.loads(line) for line in ran.stdout if line.endswith(b"\n"))
+        entries = map(json.loads, _read_lines(ran.stdout.fileno()))
         first = next((entry for entry in entries if entry.get("kind") != "fault"), None)
         if first is not None or not ran.wait():
             sys.stdout.writelines(iter_mermaid(chain([first or {}], entries)))

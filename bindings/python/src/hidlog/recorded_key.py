@@ -12,6 +12,7 @@ from . import packets
 from .captures import read
 from .captures.pcap import is_capture
 from .errors import KeyTimeoutError, LogError, ReplayMismatchError, check_bytes
+from .standard import KEEPALIVE_MS
 
 _PACKET = re.compile(r"(?:> [0-9]+|<) [0-9a-fA-F]{128}")
 _INIT, _CANCEL = 0x80 | packets.INIT, 0x80 | packets.CANCEL
@@ -20,7 +21,7 @@ _BROADCAST = b"\xff" * 4
 _FIRST_CHANNEL = 0x52000001
 # Rest of an INIT response if none was recorded: protocol 2, device 0.0.0, CBOR.
 _INIT_REST = bytes([2, 0, 0, 0, 4])
-_KEEPALIVE_SECONDS = 0.1
+_KEEPALIVE_SECONDS = KEEPALIVE_MS / 1000
 
 
 class _Line(NamedTuple):

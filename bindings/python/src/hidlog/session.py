@@ -29,7 +29,7 @@ from .session_state import Exchange, PacketQueue, Time, Work
 from .standard import KEEPALIVE_MS
 
 # Slightly more than KEEPALIVE_MS, because timestamps are whole milliseconds.
-_KEEPALIVE_SECONDS = 0.101
+_KEEPALIVE_SECONDS = (KEEPALIVE_MS + 1) / 1000
 Clock = Union[str, Callable[[], int]]
 # Maximum number of private keys, as a multiple of the capacity. A registration that exceeds it drops the private keys
 # of removed credentials.
@@ -303,8 +303,8 @@ class Session(AuthenticatorSettings):
             self._wait_for_user(is_over=True)
 
     def _pause(self, limit: float) -> bool:
-        """Returns True if 100 ms of real time have passed since the last call that returned True. Otherwise waits until
-        then or until a change, and returns False."""
+        """Returns True if _KEEPALIVE_SECONDS of real time have passed since the last call that returned True.
+        Otherwise waits until then or until a change, and returns False."""
         now = time.monotonic()
         if now >= self._work.waited_until:
             self._work.waited_until = now + _KEEPALIVE_SECONDS
@@ -334,7 +334,7 @@ class Session(AuthenticatorSettings):
             self._wait_for_user(is_over=True)
 
     def _wait_for_user(self, is_over: bool = False) -> None:
-        """Advances the key's time by 100 ms. With the real clock, waits for this time first, unless is_over."""
+        """Advances the key's time by KEEPALIVE_MS. With the real clock, waits for this time first, unless is_over."""
         if self._clock == "real":
             if not is_over:
                 self._changed.wait(KEEPALIVE_MS / 1000)

@@ -1,29 +1,29 @@
-//! Raw bindings to the C library. Each function is documented in `hidlog.h` (in the folder `lib` of the published
-//! crate). The crate `hidlog` is the safe API.
+//! Declarations of the C library's functions and types, which `hidlog.h` documents (in the folder `lib` of the
+//! published crate). The crate `hidlog` has safe functions that call them.
 #![no_std]
 #![allow(non_camel_case_types)]
 #![allow(clippy::missing_safety_doc)]
 
 use core::ffi::c_void;
 
-/// The command completed (`enum hidlog_status`).
+/// The status of a command that completed (`enum hidlog_status`).
 pub const HIDLOG_OK: u32 = 0;
-/// Maximum length of a snapshot in bytes.
+/// Maximum length in bytes of a snapshot of 64 credentials.
 pub const HIDLOG_SNAPSHOT_MAX_LEN: usize = 18125;
-/// Values of `enum hidlog_need_kind`.
+/// What a key needs from its caller: the values of `enum hidlog_need_kind`.
 pub const HIDLOG_NEED_NONE: u32 = 0;
 pub const HIDLOG_NEED_PRESENCE: u32 = 1;
 pub const HIDLOG_NEED_KEY_PAIR: u32 = 2;
 pub const HIDLOG_NEED_SIGNATURE: u32 = 3;
 
-/// `struct hidlog_key`.
+/// An in-memory key: `struct hidlog_key`.
 #[repr(C)]
 pub struct hidlog_key {
     pub memory: *mut c_void,
     pub state: u32,
 }
 
-/// `struct hidlog_result`.
+/// The result of a command: `struct hidlog_result`.
 #[repr(C)]
 #[derive(Clone, Copy, Debug, Default)]
 pub struct hidlog_result {
@@ -34,7 +34,7 @@ pub struct hidlog_result {
     pub written: u64,
 }
 
-/// `struct hidlog_need`.
+/// What a key needs from its caller: `struct hidlog_need`.
 #[repr(C)]
 #[derive(Clone, Copy)]
 pub struct hidlog_need {
@@ -44,7 +44,7 @@ pub struct hidlog_need {
     pub to_sign: [u8; 196],
 }
 
-/// `struct hidlog_cause`.
+/// Why a key rejected its last input: `struct hidlog_cause`.
 #[repr(C)]
 #[derive(Clone, Copy, Debug, Default, PartialEq, Eq)]
 pub struct hidlog_cause {
@@ -54,7 +54,7 @@ pub struct hidlog_cause {
     pub second: u64,
 }
 
-/// `struct hidlog_credential`.
+/// A credential without its private key: `struct hidlog_credential`.
 #[repr(C)]
 #[derive(Clone, Copy)]
 pub struct hidlog_credential {
@@ -70,7 +70,7 @@ pub struct hidlog_credential {
     pub sign_count: u32,
 }
 
-/// `struct hidlog_stats`.
+/// Totals and peaks of a key's session: `struct hidlog_stats`.
 #[repr(C)]
 #[derive(Clone, Copy, Debug, Default, PartialEq, Eq)]
 pub struct hidlog_stats {
@@ -83,10 +83,10 @@ pub struct hidlog_stats {
     pub reserved: u32,
 }
 
-/// Values of `enum hidlog_client_ceremony`.
+/// The methods of navigator.credentials: the values of `enum hidlog_client_ceremony`.
 pub const HIDLOG_CLIENT_CREATE: u32 = 0;
 pub const HIDLOG_CLIENT_GET: u32 = 1;
-/// Flags of `enum hidlog_client_ability`.
+/// What a key and its caller support: the flags of `enum hidlog_client_ability`.
 pub const HIDLOG_CLIENT_VERIFIES: u32 = 1;
 pub const HIDLOG_CLIENT_VERIFICATION_FAILS: u32 = 2;
 pub const HIDLOG_CLIENT_PLATFORM: u32 = 4;
@@ -94,7 +94,7 @@ pub const HIDLOG_CLIENT_RESIDENT_KEY: u32 = 8;
 pub const HIDLOG_CLIENT_CRED_PROTECT: u32 = 16;
 pub const HIDLOG_CLIENT_LARGE_BLOB: u32 = 32;
 
-/// `struct hidlog_client_report`.
+/// What the client functions report besides their output: `struct hidlog_client_report`.
 #[repr(C)]
 #[derive(Clone, Copy, Debug, Default, PartialEq, Eq)]
 pub struct hidlog_client_report {

@@ -1,4 +1,4 @@
-//! A simulated browser, and the options and responses of its calls.
+//! A simulated browser that registers and signs in, with the types of its options and responses.
 use crate::base64url;
 use crate::cbor::Item;
 use crate::client::{Ceremony, ClientCall};
@@ -12,7 +12,7 @@ use std::collections::HashMap;
 pub struct CreationOptions {
     /// The RP ID [default: the origin's host].
     pub rp_id: Option<String>,
-    /// The service's challenge.
+    /// The relying party's challenge.
     pub challenge: Vec<u8>,
     /// The user handle, 1 to 64 bytes.
     pub user_id: Vec<u8>,
@@ -25,7 +25,7 @@ pub struct CreationOptions {
 }
 
 impl CreationOptions {
-    /// Returns options for a discoverable credential for the origin's host.
+    /// Returns options that require a discoverable credential. The RP ID is the origin's host.
     pub fn new(challenge: &[u8], user_id: &[u8], user_name: &str) -> CreationOptions {
         CreationOptions {
             rp_id: None,
@@ -43,16 +43,16 @@ impl CreationOptions {
 pub struct RequestOptions {
     /// The RP ID [default: the origin's host].
     pub rp_id: Option<String>,
-    /// The service's challenge.
+    /// The relying party's challenge.
     pub challenge: Vec<u8>,
     /// IDs of the credentials that may sign in (`allowCredentials`). If empty, any discoverable credential may.
     pub allow: Vec<Id>,
-    /// Index of the account to sign in with, if several match. The newest account has index 0.
+    /// The account to sign in with if several match: 0 is the newest, 1 the next older, and so on.
     pub account: usize,
 }
 
 impl RequestOptions {
-    /// Returns options for any discoverable credential for the origin's host.
+    /// Returns options that allow any discoverable credential. The RP ID is the origin's host.
     pub fn new(challenge: &[u8]) -> RequestOptions {
         RequestOptions { rp_id: None, challenge: challenge.to_vec(), allow: Vec::new(), account: 0 }
     }
@@ -93,7 +93,7 @@ pub struct AuthenticationResponse {
 impl CreationOptions {
     /// Returns the options as `PublicKeyCredentialCreationOptionsJSON` (WebAuthn Level 3).
     fn to_json(&self) -> String {
-        let rp_id = self.rp_id.iter().map(|id| format!(r#""id":{},"#, to_json_string(id))).collect::<String>();
+        let rp_id = self.rp_id.as_ref().map(|id| format!(r#""id":{},"#, to_json_string(id))).unwrap_or_default();
         let name = to_json_string(&self.user_name);
         let (challenge, user_id) = (base64url::encode(&self.challenge), base64url::encode(&self.user_id));
         let resident_key = if self.discoverable { "required" } else { "discouraged" };
@@ -117,19 +117,19 @@ impl CreationOptions {
 impl RequestOptions {
     /// Returns the options as `PublicKeyCredentialRequestOptionsJSON` (WebAuthn Level 3).
     fn to_json(&self) -> String {
-        let rp_id = self.rp_id.iter().map(|id| format!(r#""rpId":{},"#, to_json_string(id))).collect::<String>();
+        let rp_id = self.rp_id.as_ref().map(|id| format!(r#""rpId":{},"#, to_json_string(id))).unwrap_or_default();
         let (challenge, allow) = (base64url::encode(&self.challenge), to_json_descriptors(&self.allow));
         format!(r#"{{{rp_id}"challenge":"{challenge}","allowCredentials":[{allow}],"userVerification":"discouraged"}}"#)
     }
 }
 
-/// Returns a text as a JSON string.
+/// Returns a text as a JSON string in quotes, with special characters escaped.
 fn to_json_string(text: &str) -> String {
     let mut found = String::from('"');
     for letter in text.chars() {
         match letter {
             '"' | '\\' => found.extend(['\\', letter]),
-            control if control < ' ' => found += &format!("\\u{:04x}", control as u32),
+            control if control < ' ' => found.extend(format!("\\u{:04x}", control as u32).chars()),
             other => found.push(other),
         }
     }
@@ -137,7 +137,8 @@ fn to_json_string(text: &str) -> String {
     found
 }
 
-/// Returns the credential descriptors for these IDs, as the elements of a JSON array.
+/// Returns a `PublicKeyCredentialDescriptor` for each credential ID, as the elements of a JSON array without its
+/// brackets.
 fn to_json_descriptors(ids: &[Id]) -> String {
     let each = |id: &Id| format!(r#"{{"type":"public-key","id":"{}"}}"#, base64url::encode(id));
     ids.iter().map(each).collect::<Vec<_>>().join(",")
@@ -179,8 +180,8 @@ impl AuthenticationResponse {
     }
 }
 
-/// Returns the decoded value of a base64url member of a credential's JSON. Searching for `"name":"` is enough: the
-/// library writes no whitespace, and no value contains quotes.
+/// Returns the decoded base64url value of the member with this name in a credential's JSON. Searching for `"name":"` is
+/// enough to find it, since the C library writes no whitespace, and no value contains quotes.
 fn read_member(json: &str, name: &str) -> Option<Vec<u8>> {
     let (_, rest) = json.split_once(&format!(r#""{name}":""#))?;
     base64url::decode(rest.split_once('"')?.0)
@@ -191,7 +192,8 @@ fn read_member(json: &str, name: &str) -> Option<Vec<u8>> {
 pub struct Browser {
     /// The security key.
     pub key: SecurityKey,
-    /// The mediation of the calls [default: optional]. A sign-in with mediation "conditional" uses the account at once.
+    /// The value of the option `mediation` of all calls [default: optional]. With "conditional", `get` does not wait
+    /// for the user to select an account: it signs in immediately.
     pub mediation: String,
     origin: String,
     counters: HashMap<Id, [u8; 4]>,
@@ -256,7 +258,7 @@ impl Browser {
 
     fn call(&mut self, ceremony: Ceremony, options: &str, account: usize) -> Result<String, Error> {
         let (origin, mediation, abilities) =
-            (self.origin.clone(), self.mediation.clone(), self.key.options.abilities());
+            (self.origin.clone(), self.mediation.clone(), self.key.options.client_abilities());
         let client = ClientCall { ceremony, options, mediation: &mediation, origin: &origin, abilities };
         let (request, is_verified) = client.build_request()?;
         let mut response = self.exchange(&request)?;
@@ -272,8 +274,8 @@ impl Browser {
         client.build_credential(&response).map_err(|error| self.with_cause(error, response[0]))
     }
 
-    /// Appends the key's cause to an error that a page would get, if the key rejected the request and no status is
-    /// injected.
+    /// If the key rejected the request, and the fault `status` is not injected, appends the key's cause to an
+    /// [`Error::Dom`]. Returns other errors unchanged.
     fn with_cause(&mut self, error: Error, status: u8) -> Error {
         let is_rejected = status != 0 && self.key.faults.status.is_none();
         match (error, self.key.cause()) {
@@ -284,7 +286,7 @@ impl Browser {
         }
     }
 
-    /// Sends a request to the key, and returns the response with its status byte.
+    /// Sends a CTAP2 request to the key, and returns the response including its status byte.
     fn exchange(&mut self, request: &[u8]) -> Result<Vec<u8>, Error> {
         match self.key.exchange(request) {
             Ok(data) => Ok([&[0], &data[..]].concat()),
@@ -293,7 +295,8 @@ impl Browser {
         }
     }
 
-    /// Applies the key's options and the enabled faults to a response, and stores the response's signature counter.
+    /// Changes a successful response as the key's options and the enabled faults require, and stores its signature
+    /// counter for the fault `stale_sign_count`. Returns `None` if the response lacks a required member.
     fn alter_response(
         &mut self,
         ceremony: Ceremony,
@@ -329,7 +332,7 @@ impl Browser {
         if has_none {
             self.key.add_comment("outside of the core: attestation none");
         }
-        Some(self.alter_signed(&id, data, hash, signature, flags).map(|(data, signature)| {
+        Some(self.alter_signed_data(&id, data, hash, signature, flags).map(|(data, signature)| {
             let third = match ceremony {
                 Ceremony::Create if has_none => Item::Map(Vec::new()),
                 Ceremony::Create => Item::from_entries([("alg", Item::Number(-7)), ("sig", Item::Bytes(signature))]),
@@ -350,9 +353,9 @@ impl Browser {
         }))
     }
 
-    /// Returns the authenticator data and the signature with these flags and the enabled faults. Signs changed data
-    /// again, before it is truncated.
-    fn alter_signed(
+    /// Sets flags in the authenticator data, injects the enabled faults, and returns the changed data and its
+    /// signature. If the data changed, signs it again. The fault `truncate_by` is injected last, after signing.
+    fn alter_signed_data(
         &mut self,
         id: &Id,
         data: &[u8],
@@ -382,5 +385,5 @@ impl Browser {
     }
 }
 
-/// authenticatorGetNextAssertion (CTAP 2.1, section 6.3).
+/// The command byte of authenticatorGetNextAssertion (CTAP 2.1, section 6.3).
 const GET_NEXT_ASSERTION: u8 = 0x08;

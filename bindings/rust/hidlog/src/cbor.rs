@@ -1,6 +1,7 @@
-//! The subset of CBOR in the key's requests and responses (CTAP 2.1, section 8).
+//! Encodes and decodes the subset of CBOR that CTAP2 requests and responses use (CTAP 2.1, section 8).
 
-/// A CBOR data item. A map is encoded in the order of its `Vec`, which must be canonical (CTAP 2.1, section 8).
+/// A CBOR data item. The entries of a `Map` must be in canonical order (CTAP 2.1, section 8), since `encode` does not
+/// sort them.
 #[derive(Clone, Debug, PartialEq, Eq)]
 pub enum Item {
     Number(i64),
@@ -20,7 +21,7 @@ impl Item {
         Item::Map(entries.into_iter().map(|(key, value)| (Item::from_text(key), value)).collect())
     }
 
-    /// Returns the value of a key, if this is a map with the key.
+    /// Returns the value of a key, or `None` if this item is not a map or has no such key.
     pub fn get(&self, key: &Item) -> Option<&Item> {
         match self {
             Item::Map(entries) => entries.iter().find(|entry| entry.0 == *key).map(|entry| &entry.1),
@@ -28,7 +29,7 @@ impl Item {
         }
     }
 
-    /// Returns the value of a key, if this is a map with the key and the value is a byte string.
+    /// Returns the value of a key if it is a byte string, or `None` otherwise.
     pub fn get_bytes(&self, key: &Item) -> Option<&[u8]> {
         match self.get(key) {
             Some(Item::Bytes(bytes)) => Some(bytes),
@@ -63,36 +64,36 @@ impl Item {
         }
     }
 
-    /// Decodes bytes. Returns `None` unless they are exactly one item.
+    /// Decodes bytes that must be one item. Returns `None` if they are not valid, or if more bytes follow.
     pub fn decode(mut from: &[u8]) -> Option<Item> {
         let item = read_item(&mut from)?;
         from.is_empty().then_some(item)
     }
 }
 
-/// Writes the head of an item. The argument must be below 65536.
+/// Writes the head of an item: its major type, and its argument (RFC 8949, section 3), which must be below 65536.
 fn write_head(major: u8, argument: u64, to: &mut Vec<u8>) {
     if argument < 24 {
-        to.push(major << 5 | argument as u8);
+        to.push((major << 5) | argument as u8);
     } else if argument < 0x100 {
-        to.extend([major << 5 | 24, argument as u8]);
+        to.extend([(major << 5) | 24, argument as u8]);
     } else {
-        to.push(major << 5 | 25);
+        to.push((major << 5) | 25);
         to.extend((argument as u16).to_be_bytes());
     }
 }
 
 fn take_bytes<'a>(from: &mut &'a [u8], len: usize) -> Option<&'a [u8]> {
-    let (front, rest) = (from.get(..len)?, from.get(len..)?);
+    let (taken, rest) = (from.get(..len)?, from.get(len..)?);
     *from = rest;
-    Some(front)
+    Some(taken)
 }
 
 fn read_item(from: &mut &[u8]) -> Option<Item> {
     let first = take_bytes(from, 1)?[0];
     let argument = match first & 31 {
         short @ 0..=23 => u64::from(short),
-        long @ 24..=26 => take_bytes(from, 1 << (long - 24))?.iter().fold(0, |sum, byte| sum << 8 | u64::from(*byte)),
+        long @ 24..=26 => take_bytes(from, 1 << (long - 24))?.iter().fold(0, |sum, byte| (sum << 8) | u64::from(*byte)),
         _ => return None,
     };
     let len = argument as usize;

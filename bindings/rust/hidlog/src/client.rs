@@ -1,12 +1,13 @@
-//! Calls of `navigator.credentials`. The C library checks the options, and builds the request for the key and the
-//! credential's JSON.
+//! Implements calls of `navigator.credentials` with the C library, which checks the options, builds the CTAP2 request,
+//! and converts the key's response to the credential's JSON.
 use crate::standard::LONGEST_MESSAGE;
 use crate::Error;
 use hidlog_sys as sys;
 
-/// Maximum length of a credential's JSON in bytes.
+/// Maximum length in bytes of a credential as JSON.
 const CREDENTIAL_CAPACITY: usize = 16384;
-/// No public suffix, so the library takes the last label of the origin's host as the suffix. Passed with length 0.
+/// An argument for an empty public suffix: a pointer that isn't null, passed with the length 0. The C library then
+/// takes the last label of the origin's host as the public suffix.
 const NO_SUFFIX: [u8; 1] = [0];
 
 /// A method of `navigator.credentials`.
@@ -16,8 +17,8 @@ pub(crate) enum Ceremony {
     Get,
 }
 
-/// A call of `navigator.credentials`: the method, the options as JSON, the mediation, the page's origin, and the key's
-/// abilities.
+/// The parameters of one call of `navigator.credentials`: the method, the options as JSON, the mediation, the page's
+/// origin, and the key's abilities (flags of `enum hidlog_client_ability`).
 pub(crate) struct ClientCall<'a> {
     pub(crate) ceremony: Ceremony,
     pub(crate) options: &'a str,
@@ -34,8 +35,8 @@ impl ClientCall<'_> {
         }
     }
 
-    /// Checks the options, and returns the request for the key: the command byte, then CBOR. Also returns whether the
-    /// user is verified.
+    /// Checks the page's options, and returns the CTAP2 request: the command byte, followed by CBOR. Also returns
+    /// whether the user is verified, so that the flag UV must be set in the response.
     pub(crate) fn build_request(&self) -> Result<(Vec<u8>, bool), Error> {
         let mut report = sys::hidlog_client_report::default();
         let mut out = vec![0; LONGEST_MESSAGE];
@@ -57,11 +58,11 @@ impl ClientCall<'_> {
                 out.len(),
             )
         };
-        let request = read_output(length, &report, out, "the request is longer than 7609 bytes")?;
+        let request = read_output(length, &report, out, "the CTAP2 request is longer than 7609 bytes")?;
         Ok((request, report.is_verified == 1))
     }
 
-    /// Returns the credential as JSON. The key's response is a status byte, then CBOR.
+    /// Returns the credential as JSON, from the key's response: a status byte, followed by CBOR.
     pub(crate) fn build_credential(&self, response: &[u8]) -> Result<String, Error> {
         let mut report = sys::hidlog_client_report::default();
         let mut out = vec![0; CREDENTIAL_CAPACITY];
@@ -90,8 +91,8 @@ impl ClientCall<'_> {
     }
 }
 
-/// Returns the output of a library call, or its error. `too_long` is the error message if the output does not fit in
-/// `out`.
+/// Returns the output of a C function that returned `length` and wrote to `report` and `out`. A negative `length` is an
+/// error code; then `out` has the texts for the error message. `too_long` is the message if the output did not fit.
 fn read_output(
     length: i64,
     report: &sys::hidlog_client_report,

@@ -6,22 +6,23 @@ use std::fmt;
 #[derive(Clone, Debug, PartialEq, Eq)]
 #[non_exhaustive]
 pub enum Error {
-    /// An error of the C library: its code (`enum hidlog_key_error` in `hidlog.h`) and a description.
+    /// An error of the C library's key functions: the code (`enum hidlog_key_error` in `hidlog.h`) and its description.
     Core(i32, &'static str),
-    /// An invalid argument.
+    /// An argument is invalid: what it must be.
     InvalidArgument(&'static str),
     /// The CTAP status code with which the key rejected a request.
     Status(u8),
-    /// The error that a page would get: its name, such as `NotAllowedError`, and its message.
+    /// An exception that `navigator.credentials` would throw in a page: its name, such as `NotAllowedError`, and its
+    /// message.
     Dom(&'static str, String),
-    /// A response of the key is an ERROR packet, or not valid CTAP 2.1.
+    /// The key responded with an ERROR packet, or its response is not valid CTAP 2.1.
     InvalidResponse,
-    /// OpenSSL could not generate a key or random bytes, or could not sign.
+    /// A function of OpenSSL failed: it could not generate a private key or random bytes, or could not sign.
     OpenSsl,
 }
 
 impl Error {
-    /// Returns the name of an error that a page would get ([`Error::Dom`]), or `None` for another error.
+    /// Returns the name of the exception if this is an [`Error::Dom`], or `None` for another error.
     pub fn dom_name(&self) -> Option<&'static str> {
         match self {
             Error::Dom(name, _) => Some(name),
@@ -41,7 +42,7 @@ impl Error {
                 -17 => "the bytes are not a snapshot",
                 -18 => "the key is full: its capacity is 64 credentials",
                 -19 => "the snapshot has an invalid credential",
-                _ => "unknown error",
+                _ => "the C library returned an unknown error code",
             },
         )
     }

@@ -1,4 +1,4 @@
-//! The authenticator: the verified core, with recordings.
+//! The authenticator: safe functions for the C library's in-memory key, and recordings of its sessions.
 use crate::Error;
 use hidlog_sys as sys;
 use std::fmt::{self, Write};
@@ -8,7 +8,7 @@ pub type Packet = [u8; 64];
 /// A credential ID.
 pub type Id = [u8; 32];
 
-/// Maximum length in bytes of the sentence that `cause` returns (`hidlog.h`).
+/// Maximum length in bytes of the sentence that `cause` returns: `hidlog_key_cause` in `hidlog.h`.
 const CAUSE_CAPACITY: usize = 160;
 
 /// What the user does when the authenticator asks for a touch.
@@ -18,20 +18,21 @@ pub enum Presence {
     Granted,
     /// The user refuses.
     Denied,
-    /// The user does nothing.
+    /// The user does nothing until the authenticator's timeout.
     TimedOut,
 }
 
 /// What an authenticator needs from its caller to continue its request.
 #[derive(Clone, Debug, PartialEq, Eq)]
 pub enum Need {
-    /// Nothing: no request waits for the caller.
+    /// Nothing: the authenticator has no request that needs the caller.
     None,
     /// User presence: [`Authenticator::provide_presence`].
     Presence,
     /// A new key pair: [`Authenticator::provide_key_pair`].
     KeyPair,
-    /// A signature over these bytes with the private key of the credential with this ID: ECDSA with SHA-256, in DER.
+    /// A signature over these bytes (ECDSA with SHA-256, in DER), with the private key of the credential that has this
+    /// ID: [`Authenticator::provide_signature`].
     Signature(Id, Vec<u8>),
 }
 
@@ -44,7 +45,7 @@ pub struct Credential {
     pub id: Id,
     /// The x coordinate of the public key on P-256.
     pub x: [u8; 32],
-    /// The y coordinate.
+    /// The y coordinate of the public key on P-256.
     pub y: [u8; 32],
     /// The user handle, at most 64 bytes.
     pub user_id: Vec<u8>,
@@ -56,32 +57,35 @@ pub struct Credential {
     pub sign_count: u32,
 }
 
-/// A session log, and a snapshot of the credentials at its start. `hidlog check --load SNAPSHOT LOG` checks a
-/// recording.
+/// The log of a session, and the snapshot of the credentials with which the session started. `hidlog check --load
+/// SNAPSHOT LOG` checks a recording.
 #[derive(Clone, Debug, Default, PartialEq, Eq)]
 pub struct Recording {
-    /// The snapshot of the credentials at the start; empty if the authenticator started without a snapshot.
+    /// The snapshot of the credentials at the session's start, or empty if it started without a snapshot.
     pub snapshot: Vec<u8>,
     /// The log.
     pub log: Vec<u8>,
 }
 
-/// Part of a key's memory, with the alignment that the library requires. (Before Rust 1.77, `u128` is aligned to only 8
-/// bytes on x86-64.)
+/// 16 bytes of a key's memory, with the alignment that the C library requires. `u128` can't replace this type: before
+/// Rust 1.77, it is aligned to only 8 bytes on x86-64.
 #[repr(align(16))]
 #[derive(Clone, Copy)]
 struct AlignedBlock(#[allow(dead_code)] [u8; 16]);
 
-/// The verified core alone: packets and replies in, packets out. Times are milliseconds since power-up. Every input is
-/// recorded, except one that returns an error, which does not change the authenticator.
+/// The formally verified core, without private keys and without a simulated user. The caller passes in the host's
+/// packets, and user presence, key pairs and signatures when they are needed; the authenticator returns packets for the
+/// host. Times are milliseconds since power-up. Each input is recorded. If a function returns an error, its input is
+/// not recorded, and the authenticator is unchanged.
 pub struct Authenticator {
-    // While the key is initialized, `key` points to `_memory`, and the library requires that neither moves.
+    // `key` has a pointer to `_memory`. The C library requires that neither of them moves while the key is initialized.
     key: Box<sys::hidlog_key>,
     _memory: Vec<AlignedBlock>,
     recordings: Vec<Recording>,
 }
 
-// SAFETY: hidlog.h allows calls from any thread unless two calls on a key overlap, and each call needs `&mut self`.
+// SAFETY: hidlog.h allows calls from any thread, if no two calls for one key run at the same time. They don't, since
+// each function that calls the library takes `&mut self`.
 unsafe impl Send for Authenticator {}
 
 impl Authenticator {
@@ -91,13 +95,13 @@ impl Authenticator {
     ///
     /// [`Error::Core`] if the snapshot is invalid.
     pub fn new(snapshot: &[u8]) -> Result<Authenticator, Error> {
-        // SAFETY: the function has no arguments and no state.
+        // SAFETY: this C function has no arguments and no state.
         let size = unsafe { sys::hidlog_key_size() };
         let mut memory = vec![AlignedBlock([0; 16]); (size + 15) / 16];
         let mut key = Box::new(sys::hidlog_key { memory: memory.as_mut_ptr().cast(), state: 0 });
         let aaguid = [0u8; 16];
         // SAFETY: no pointer is null, not even that of an empty slice. The memory has the size that the library needs,
-        // is aligned to 16 bytes, and does not move, since it is on the heap.
+        // is aligned to 16 bytes, and does not move, since it is on the heap; neither does `key`.
         let status = unsafe { sys::hidlog_key_init(&mut *key, aaguid.as_ptr(), 0, snapshot.as_ptr(), snapshot.len()) };
         if status < 0 {
             return Err(Error::from_code(status));
@@ -106,7 +110,8 @@ impl Authenticator {
         Ok(Authenticator { key, _memory: memory, recordings })
     }
 
-    /// Passes an input to the library with `call`, appends its log line to the recording, and returns the packets sent.
+    /// Calls `call`, which must pass an input to the C library, and returns the packets that the authenticator sends.
+    /// Appends `line`, the input's line in the log, and the lines of these packets to the recording.
     fn handle_input(
         &mut self,
         line: fmt::Arguments<'_>,
@@ -136,13 +141,14 @@ impl Authenticator {
         })
     }
 
-    /// Advances the time, and returns the packets sent.
+    /// Tells the authenticator the current time, so that it can handle timeouts and send KEEPALIVEs, and returns the
+    /// packets that it sends.
     pub fn tick(&mut self, time_ms: u64) -> Result<Vec<Packet>, Error> {
         // SAFETY: the key is initialized.
         self.handle_input(format_args!("t {time_ms}"), |key| unsafe { sys::hidlog_key_tick(key, time_ms) })
     }
 
-    /// Reports what the user did when asked for a touch.
+    /// Tells an authenticator that needs user presence ([`Need::Presence`]) what the user did.
     pub fn provide_presence(&mut self, time_ms: u64, presence: Presence) -> Result<Vec<Packet>, Error> {
         let (word, number) = match presence {
             Presence::Granted => ("granted", 0),
@@ -155,7 +161,8 @@ impl Authenticator {
         })
     }
 
-    /// Provides a new key pair: the credential ID and the public key on P-256.
+    /// Provides a new key pair: the ID of the new credential, and the coordinates of its public key on P-256. The
+    /// caller keeps the private key.
     pub fn provide_key_pair(
         &mut self,
         time_ms: u64,
@@ -169,7 +176,7 @@ impl Authenticator {
         })
     }
 
-    /// Reports that the caller cannot provide a key pair.
+    /// Tells an authenticator that needs a key pair ([`Need::KeyPair`]) that the caller cannot provide one.
     pub fn reject_key_pair(&mut self, time_ms: u64) -> Result<Vec<Packet>, Error> {
         // SAFETY: the key is initialized.
         self.handle_input(format_args!("k {time_ms} no"), |key| unsafe {
@@ -192,7 +199,7 @@ impl Authenticator {
         })
     }
 
-    /// Reports that the caller cannot provide a signature.
+    /// Tells an authenticator that needs a signature ([`Need::Signature`]) that the caller cannot provide one.
     pub fn reject_signature(&mut self, time_ms: u64) -> Result<Vec<Packet>, Error> {
         // SAFETY: the key is initialized.
         self.handle_input(format_args!("s {time_ms} no"), |key| unsafe {
@@ -200,18 +207,19 @@ impl Authenticator {
         })
     }
 
-    /// Returns why the authenticator rejected its last input with an ERROR packet, or with a status other than 0. The
-    /// cause is a sentence without a full stop. It is empty after power-up, and if the input was not rejected.
+    /// Returns why the authenticator responded to its last input with an ERROR packet or with a status other than 0, as
+    /// a sentence without a full stop. Returns an empty string if there was no such response, or no input since
+    /// power-up.
     pub fn cause(&mut self) -> String {
         let mut cause = sys::hidlog_cause::default();
         let mut text = vec![0; CAUSE_CAPACITY];
-        // SAFETY: the key is initialized, and the length is that of the buffer.
+        // SAFETY: the key is initialized, and `text` has `CAUSE_CAPACITY` bytes.
         let len = unsafe { sys::hidlog_key_cause(&mut *self.key, 1, &mut cause, text.as_mut_ptr(), CAUSE_CAPACITY) };
         text.truncate(usize::try_from(len).unwrap_or(0));
         String::from_utf8_lossy(&text).into_owned()
     }
 
-    /// Returns what the authenticator needs now.
+    /// Returns what the authenticator needs from the caller now.
     pub fn need(&mut self) -> Need {
         let mut need = sys::hidlog_need { kind: 0, to_sign_len: 0, id: [0; 32], to_sign: [0; 196] };
         // SAFETY: the key is initialized.
@@ -224,7 +232,7 @@ impl Authenticator {
         }
     }
 
-    /// Returns the credentials, oldest first.
+    /// Returns the credentials on the authenticator, oldest first.
     pub fn credentials(&mut self) -> Vec<Credential> {
         let mut row = to_c_credential(&Credential::default());
         // SAFETY: the key is initialized.
@@ -233,8 +241,8 @@ impl Authenticator {
         (0..).map_while(&mut next).map(|row| from_c_credential(&row)).collect()
     }
 
-    /// Begins a new recording after a change of the credentials, which power-cycles the authenticator. If `status`, the
-    /// result of the change, is an error, returns the error.
+    /// Begins a new recording after a C function that changes the credentials, which also power-cycles the
+    /// authenticator. `status` is the return value of that function; if it is an error code, returns the error instead.
     fn begin_recording(&mut self, status: i32) -> Result<(), Error> {
         if status < 0 {
             return Err(Error::from_code(status));
@@ -250,17 +258,17 @@ impl Authenticator {
     /// # Errors
     ///
     /// [`Error::InvalidArgument`] if the user handle or the user name is longer than 64 bytes. [`Error::Core`] if a
-    /// request is in progress, the key is full, or another discoverable credential has the same RP and user.
+    /// request is in progress, the key is full, or another discoverable credential has the same RP and user handle.
     pub fn add(&mut self, credential: &Credential) -> Result<(), Error> {
         if credential.user_id.len() > 64 || credential.user_name.len() > 64 {
-            return Err(Error::InvalidArgument("user_id and user_name must have at most 64 bytes"));
+            return Err(Error::InvalidArgument("user_id and user_name must have at most 64 bytes each"));
         }
         // SAFETY: the key is initialized.
         let status = unsafe { sys::hidlog_key_add_credential(&mut *self.key, 0, &to_c_credential(credential)) };
         self.begin_recording(status)
     }
 
-    /// Removes the credential with this ID.
+    /// Removes the credential with this ID, and power-cycles the authenticator.
     ///
     /// # Errors
     ///
@@ -271,7 +279,7 @@ impl Authenticator {
         self.begin_recording(status)
     }
 
-    /// Removes all credentials.
+    /// Removes all credentials, and power-cycles the authenticator.
     ///
     /// # Errors
     ///
@@ -286,13 +294,13 @@ impl Authenticator {
     /// --load`.
     pub fn snapshot(&mut self) -> Vec<u8> {
         let mut out = vec![0; sys::HIDLOG_SNAPSHOT_MAX_LEN];
-        // SAFETY: the key is initialized, and the length is that of the buffer.
+        // SAFETY: the key is initialized, and `out` has `out.len()` bytes.
         let len = unsafe { sys::hidlog_key_save_snapshot(&mut *self.key, out.as_mut_ptr(), out.len()) };
         out.truncate(len.max(0) as usize);
         out
     }
 
-    /// Appends a comment to the recording.
+    /// Appends a comment line to the log of the current recording.
     #[cfg(feature = "openssl")]
     pub(crate) fn add_comment(&mut self, text: &str) {
         let log = &mut self.recordings.last_mut().expect("never empty").log;

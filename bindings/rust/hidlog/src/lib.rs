@@ -1,6 +1,6 @@
 //! A formally verified FIDO2 security key for tests, with recorded sessions that replay exactly.
 //!
-//! A [`Browser`] registers and signs in as a page does:
+//! A [`Browser`] registers credentials and signs in with them, as `navigator.credentials` does in a page:
 //!
 //! ```
 //! # #[cfg(feature = "openssl")]
@@ -21,8 +21,9 @@
 //! # fn main() {}
 //! ```
 //!
-//! An [`Authenticator`] is the verified core alone: packets and replies in, packets out. Its recordings are logs for
-//! `hidlog check`. Private keys are stored in clear text: use this crate for tests only.
+//! An [`Authenticator`] is the verified core without private keys and without a simulated user: its caller passes in
+//! the host's packets, user presence, key pairs and signatures, and gets packets for the host. `hidlog check` checks
+//! its recordings. Private keys are stored in clear text: use this crate for tests only.
 #![warn(missing_docs)]
 
 mod error;

@@ -1,4 +1,4 @@
-//! The properties of a key that browsers report or depend on.
+//! The options of a key that the verified core does not have, such as user verification and the backup flags.
 use hidlog_sys as sys;
 
 // Flags of authenticator data (WebAuthn Level 3, section 6.1).
@@ -6,39 +6,40 @@ pub(crate) const FLAG_UV: u8 = 0x04;
 const FLAG_BE: u8 = 0x08;
 const FLAG_BS: u8 = 0x10;
 
-/// The result of user verification.
+/// How a key handles user verification.
 #[derive(Clone, Copy, Debug, Default, PartialEq, Eq)]
 pub enum Verification {
-    /// The key has no user verification.
+    /// The key does not support user verification.
     #[default]
     None,
-    /// User verification succeeds.
+    /// User verification always succeeds.
     Verified,
-    /// User verification fails.
+    /// User verification always fails.
     Failed,
 }
 
-/// The properties of a key that browsers report or depend on. They are outside the verified core: the recording has a
-/// comment on each response that they change, and still passes `hidlog check`.
+/// Properties of a key that the verified core does not have, such as user verification. A browser uses them to check a
+/// page's options, and changes the core's responses accordingly. The recording has the core's own responses, with a
+/// comment for each change, so it still passes `hidlog check`.
 #[derive(Clone, Debug, Default, PartialEq, Eq)]
 pub struct AuthenticatorOptions {
-    /// The result of user verification.
+    /// How the key handles user verification.
     pub verification: Verification,
     /// If true, the key is a platform authenticator; otherwise it is a USB key.
     pub platform: bool,
-    /// If true, browsers can't create discoverable credentials.
+    /// If true, the key does not support discoverable credentials.
     pub no_resident_keys: bool,
-    /// The flag BE of new credentials.
+    /// The value of the flag BE (backup eligibility) for credentials that are created from now on.
     pub backup_eligible: bool,
-    /// The flag BS of new credentials.
+    /// The value of the flag BS (backup state) for credentials that are created from now on.
     pub backed_up: bool,
-    /// If true, the attestation statement format "none" replaces self attestation.
+    /// If true, the attestation statement format "none" replaces the self attestation of registrations.
     pub no_attestation: bool,
 }
 
 impl AuthenticatorOptions {
-    /// Returns the flags of enum hidlog_client_ability.
-    pub(crate) fn abilities(&self) -> u32 {
+    /// Returns the options as flags of `enum hidlog_client_ability` (`hidlog.h`).
+    pub(crate) fn client_abilities(&self) -> u32 {
         let verification = match self.verification {
             Verification::None => 0,
             Verification::Verified => sys::HIDLOG_CLIENT_VERIFIES,
@@ -49,14 +50,14 @@ impl AuthenticatorOptions {
         verification | platform | resident_key
     }
 
-    /// Returns the flags BE and BS of a new credential.
+    /// Returns the flags BE and BS for a new credential, as bits of the authenticator data's flags.
     pub(crate) fn backup_flags(&self) -> u8 {
         let eligible = if self.backup_eligible { FLAG_BE } else { 0 };
         eligible | if self.backed_up { FLAG_BS } else { 0 }
     }
 }
 
-/// Returns the names of flags, separated by commas.
+/// Returns the names of the flags that are set, separated by commas: UV, BE and BS.
 pub(crate) fn flag_names(flags: u8) -> String {
     let named = [(FLAG_UV, "UV"), (FLAG_BE, "BE"), (FLAG_BS, "BS")];
     let names: Vec<_> = named.iter().filter(|(bit, _)| flags & bit != 0).map(|(_, name)| *name).collect();

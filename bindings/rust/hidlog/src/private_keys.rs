@@ -1,4 +1,4 @@
-//! Private keys, generated and used with the system's OpenSSL 3.
+//! Private keys on P-256 that sign, SHA-256 and random bytes, from the system's OpenSSL 3.
 use crate::Error;
 use std::os::raw::{c_char, c_int, c_uchar, c_void};
 use std::ptr::{null, null_mut};
@@ -36,7 +36,7 @@ extern "C" {
     fn RAND_bytes(out: *mut u8, len: c_int) -> c_int;
 }
 
-/// Returns the SHA-256 hash.
+/// Returns the SHA-256 hash of a text.
 pub fn sha256(text: &[u8]) -> [u8; 32] {
     let mut out = [0; 32];
     // SAFETY: SHA256 reads `text.len()` bytes and writes 32.
@@ -44,7 +44,7 @@ pub fn sha256(text: &[u8]) -> [u8; 32] {
     out
 }
 
-/// Returns random bytes.
+/// Returns `N` random bytes.
 pub(crate) fn random_bytes<const N: usize>() -> Result<[u8; N], Error> {
     let mut out = [0; N];
     // SAFETY: RAND_bytes writes N bytes.
@@ -57,7 +57,7 @@ pub(crate) fn random_bytes<const N: usize>() -> Result<[u8; N], Error> {
 /// A private key on P-256.
 pub struct PrivateKey(*mut c_void);
 
-// SAFETY: OpenSSL's keys are not bound to a thread, and a `PrivateKey` is the only owner of its key.
+// SAFETY: any thread may use a key of OpenSSL, and a `PrivateKey` is the only owner of its key.
 unsafe impl Send for PrivateKey {}
 
 impl PrivateKey {
@@ -67,7 +67,8 @@ impl PrivateKey {
     ///
     /// [`Error::OpenSsl`] if OpenSSL fails.
     pub fn new() -> Result<PrivateKey, Error> {
-        // SAFETY: the strings are NUL-terminated, and for the type "EC" the next argument is the name of the curve.
+        // SAFETY: the strings end with NUL. For keys of the type "EC", OpenSSL expects one more argument, the curve's
+        // name.
         let key = unsafe { EVP_PKEY_Q_keygen(null_mut(), null(), b"EC\0".as_ptr().cast(), b"P-256\0".as_ptr()) };
         if key.is_null() {
             return Err(Error::OpenSsl);
@@ -82,12 +83,12 @@ impl PrivateKey {
     /// [`Error::OpenSsl`] if OpenSSL fails.
     pub fn point(&self) -> Result<([u8; 32], [u8; 32]), Error> {
         let (mut out, mut len) = ([0u8; 65], 0);
-        // SAFETY: the key is not null, and the length is that of the buffer.
+        // SAFETY: the key is not null, and `out` has `out.len()` bytes.
         let status = unsafe {
             let name = b"pub\0".as_ptr().cast();
             EVP_PKEY_get_octet_string_param(self.0, name, out.as_mut_ptr(), out.len(), &mut len)
         };
-        // An uncompressed point begins with 4.
+        // OpenSSL returns an uncompressed point: the byte 4, then the coordinates x and y.
         if status != 1 || len != 65 || out[0] != 4 {
             return Err(Error::OpenSsl);
         }
@@ -101,8 +102,8 @@ impl PrivateKey {
     ///
     /// [`Error::OpenSsl`] if OpenSSL fails.
     pub fn public_key(&self) -> Result<Vec<u8>, Error> {
-        // The DER before the coordinates (RFC 5480): the algorithm ecPublicKey, the curve prime256v1, the head of the bit
-        // string, and the 4 with which an uncompressed point begins.
+        // The DER bytes before the coordinates (RFC 5480): the algorithm ecPublicKey, the curve prime256v1, the head of
+        // a bit string, and the byte 4, with which an uncompressed point begins.
         const SPKI_PREFIX: [u8; 27] = [
             0x30, 0x59, 0x30, 0x13, 0x06, 0x07, 0x2a, 0x86, 0x48, 0xce, 0x3d, 0x02, 0x01, 0x06, 0x08, 0x2a, 0x86, 0x48,
             0xce, 0x3d, 0x03, 0x01, 0x07, 0x03, 0x42, 0x00, 0x04,
@@ -111,15 +112,14 @@ impl PrivateKey {
         Ok([&SPKI_PREFIX[..], &x, &y].concat())
     }
 
-    /// Signs a message with ECDSA and SHA-256 (DER).
+    /// Signs a text with ECDSA and SHA-256, and returns the signature in DER.
     ///
     /// # Errors
     ///
     /// [`Error::OpenSsl`] if OpenSSL fails.
     pub fn sign(&self, text: &[u8]) -> Result<Vec<u8>, Error> {
         let (mut out, mut len) = (vec![0; 72], 72);
-        // SAFETY: the key is not null, and the lengths are those of the buffers. A signature on P-256 has at most 72
-        // bytes.
+        // SAFETY: the key is not null. Each length is that of its buffer; 72 bytes are enough for a signature on P-256.
         let is_signed = unsafe {
             let context = EVP_MD_CTX_new();
             let is_initialized = EVP_DigestSignInit(context, null_mut(), EVP_sha256(), null_mut(), self.0) == 1;
@@ -132,9 +132,9 @@ impl PrivateKey {
         is_signed.then_some(out).ok_or(Error::OpenSsl)
     }
 
-    /// Returns whether a signature is valid for this key.
+    /// Returns whether a signature over a text is valid for this key.
     pub fn verify(&self, text: &[u8], signature: &[u8]) -> bool {
-        // SAFETY: as in `sign`.
+        // SAFETY: the key is not null, and each length is that of its buffer.
         unsafe {
             let context = EVP_MD_CTX_new();
             let is_initialized = EVP_DigestVerifyInit(context, null_mut(), EVP_sha256(), null_mut(), self.0) == 1;
@@ -148,7 +148,7 @@ impl PrivateKey {
 
 impl Drop for PrivateKey {
     fn drop(&mut self) {
-        // SAFETY: `self` is the only owner of the key.
+        // SAFETY: `self` is the only owner of the key, and does not use it again.
         unsafe { EVP_PKEY_free(self.0) };
     }
 }

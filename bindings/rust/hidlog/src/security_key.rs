@@ -5,36 +5,37 @@ use crate::{Authenticator, AuthenticatorOptions, Credential, Error, Id, Need, Pa
 use std::collections::HashMap;
 use std::time::Instant;
 
-// CTAPHID commands, with bit 7 set, which marks initialization packets (CTAP 2.1, section 11.2.4).
+// CTAPHID commands as an initialization packet has them: with bit 7 set (CTAP 2.1, section 11.2.4).
 const COMMAND_INIT: u8 = 0x80 | standard::INIT;
 const COMMAND_CBOR: u8 = 0x80 | standard::CBOR;
 const COMMAND_KEEPALIVE: u8 = 0x80 | standard::KEEPALIVE;
 
-/// Faults to inject into responses, to test how a service handles invalid responses. The faults are injected outside
-/// the authenticator, so its recordings still pass `hidlog check`.
+/// Errors to inject into the key's responses, to test how a relying party handles invalid responses. They are injected
+/// after the authenticator has responded, so its recordings still pass `hidlog check`.
 #[derive(Clone, Debug, Default, PartialEq, Eq)]
 pub struct Faults {
-    /// If set, the status of every response.
+    /// If set, replaces the CTAP status of every response.
     pub status: Option<u8>,
-    /// If true, signs with a different private key.
+    /// If true, signatures are invalid: they are made with a different private key.
     pub bad_signature: bool,
-    /// If true, repeats the signature counter of the credential's previous response, with a valid signature.
+    /// If true, the signature counter keeps its value in the credential's previous response. The signature is valid.
     pub stale_sign_count: bool,
-    /// If set, the RP ID whose hash replaces the one in the authenticator data, with a valid signature.
+    /// If set, another RP ID, whose hash replaces the RP ID hash in the authenticator data. The signature is valid.
     pub wrong_rp_id: Option<String>,
     /// The number of bytes to remove from the end of the authenticator data after signing.
     pub truncate_by: usize,
 }
 
-/// An authenticator with private keys and a simulated user. Clients send messages to it.
+/// An authenticator with private keys and a simulated user. Send requests to it with `exchange`, or with a
+/// [`Browser`](crate::Browser).
 pub struct SecurityKey {
     authenticator: Authenticator,
-    /// The sequence of what the user does when the key asks for a touch. The last element is repeated. If the sequence
-    /// is empty, the user always touches the key.
+    /// What the user does each time the key asks for a touch, in order; the last element is repeated. If this is empty,
+    /// the user always touches the key.
     pub presence: Vec<Presence>,
     /// The faults to inject.
     pub faults: Faults,
-    /// The properties that browsers report or depend on.
+    /// Properties that the verified core does not have, such as user verification.
     pub options: AuthenticatorOptions,
     powered_up: Instant,
     private_keys: HashMap<Id, PrivateKey>,
@@ -59,6 +60,7 @@ impl SecurityKey {
         })
     }
 
+    /// Returns the time since the key's power-up in milliseconds.
     fn now_ms(&self) -> u64 {
         self.powered_up.elapsed().as_millis() as u64
     }
@@ -79,7 +81,7 @@ impl SecurityKey {
     /// # Errors
     ///
     /// [`Error::InvalidArgument`] if the user handle or the user name is longer than 64 bytes. [`Error::Core`] if a
-    /// request is in progress, the key is full, or another discoverable credential has the same RP and user.
+    /// request is in progress, the key is full, or another discoverable credential has the same RP and user handle.
     /// [`Error::OpenSsl`] if OpenSSL fails.
     pub fn add(&mut self, credential: &Credential, private_key: PrivateKey) -> Result<(), Error> {
         let (x, y) = private_key.point()?;
@@ -114,7 +116,7 @@ impl SecurityKey {
         self.authenticator.recordings()
     }
 
-    /// Appends a comment to the recording.
+    /// Appends a comment line to the log of the current recording.
     pub(crate) fn add_comment(&mut self, text: &str) {
         self.authenticator.add_comment(text);
     }
@@ -141,8 +143,8 @@ impl SecurityKey {
         }
     }
 
-    /// Sends a packet to the authenticator, provides what the authenticator needs until it needs nothing, and returns
-    /// the packets sent.
+    /// Passes a packet to the authenticator, gives it what it needs until it needs nothing more, and returns all
+    /// packets that the authenticator sent.
     fn exchange_packet(&mut self, packet: &Packet) -> Result<Vec<Packet>, Error> {
         let mut sent = self.authenticator.handle_packet(self.now_ms(), packet)?;
         loop {
@@ -159,7 +161,7 @@ impl SecurityKey {
         }
     }
 
-    /// Sends a message on a channel, and returns the response's command and data.
+    /// Sends a CTAPHID message on a channel, and returns the command and the data of the response message.
     fn transact(&mut self, channel: [u8; 4], command: u8, data: &[u8]) -> Result<(u8, Vec<u8>), Error> {
         let mut sent = Vec::new();
         for packet in fragment(channel, command, data) {
@@ -178,19 +180,20 @@ impl SecurityKey {
         Ok(channel)
     }
 
-    /// Returns why the key rejected its last request, as a sentence without a full stop. Empty if the request was not
-    /// rejected.
+    /// Returns why the key rejected its last request, as a sentence without a full stop, or an empty string if it did
+    /// not reject the request.
     pub fn cause(&mut self) -> String {
         self.authenticator.cause()
     }
 
-    /// Sends an authenticator command and its CBOR parameters, and returns the response after the status byte. Of the
-    /// `faults`, only `status` is injected here, and the others by browsers.
+    /// Sends a CTAP2 request, and returns the response without its status byte. The request is the byte of the
+    /// authenticator command, followed by its CBOR parameters. Only the fault `status` is injected here; a
+    /// [`Browser`](crate::Browser) injects the other faults.
     ///
     /// # Errors
     ///
-    /// [`Error::Status`] if the status byte is not 0 or a status is injected; `cause` returns why the key rejected the
-    /// request. [`Error::InvalidArgument`] if the request is empty or longer than 7609 bytes.
+    /// [`Error::Status`] if the status byte is not 0 (then `cause` returns why the key rejected the request), or if a
+    /// status is injected. [`Error::InvalidArgument`] if the request is empty or longer than 7609 bytes.
     /// [`Error::InvalidResponse`] if the response is not valid. [`Error::OpenSsl`] if OpenSSL fails.
     pub fn exchange(&mut self, request: &[u8]) -> Result<Vec<u8>, Error> {
         if request.is_empty() || request.len() > LONGEST_MESSAGE {
@@ -207,11 +210,11 @@ impl SecurityKey {
     }
 }
 
-/// Splits a message into packets.
+/// Splits a CTAPHID message into an initialization packet and continuation packets.
 fn fragment(channel: [u8; 4], command: u8, data: &[u8]) -> Vec<Packet> {
-    let (front, rest) = data.split_at(data.len().min(INITIALIZATION_DATA));
+    let (start, rest) = data.split_at(data.len().min(INITIALIZATION_DATA));
     let length = (data.len() as u16).to_be_bytes();
-    let first = [&channel[..], &[command], &length, front].concat();
+    let first = [&channel[..], &[command], &length, start].concat();
     let others =
         rest.chunks(CONTINUATION_DATA).zip(0u8..).map(|(data, sequence)| [&channel[..], &[sequence], data].concat());
     std::iter::once(first)
@@ -224,7 +227,8 @@ fn fragment(channel: [u8; 4], command: u8, data: &[u8]) -> Vec<Packet> {
         .collect()
 }
 
-/// Reassembles the message that was sent on a channel, skipping KEEPALIVEs, and returns the message's command and data.
+/// Joins the packets of the message that the key sent on a channel, and returns the message's command and data. Skips
+/// KEEPALIVEs and packets on other channels. Returns `None` if the message is incomplete.
 fn reassemble(channel: [u8; 4], sent: &[Packet]) -> Option<(u8, Vec<u8>)> {
     let (mut command, mut length, mut data) = (None, 0, Vec::new());
     for packet in sent.iter().filter(|packet| packet[..4] == channel && packet[4] != COMMAND_KEEPALIVE) {

@@ -1,5 +1,5 @@
-//! Registers and signs in, verifies the signatures with OpenSSL, and runs `hidlog check` on the recordings if the
-//! program hidlog is found.
+//! Registers and signs in with a [`Browser`], verifies the signatures with OpenSSL, and runs `hidlog check` on the
+//! recordings if the program hidlog exists.
 #![cfg(feature = "openssl")]
 
 use hidlog::{
@@ -32,11 +32,11 @@ fn has_valid_signature(browser: &Browser, assertion: &AuthenticationResponse) ->
     browser.key.private_key(&assertion.id).unwrap().verify(&signed, &assertion.signature)
 }
 
-/// Runs `hidlog check` on each recording, if the program hidlog is found.
+/// Runs `hidlog check` on each recording, if the program hidlog exists.
 fn check_recordings(recordings: &[Recording]) {
     let program = std::env::var("HIDLOG_PROGRAM").unwrap_or_else(|_| "../../../release/hidlog".into());
     if !std::path::Path::new(&program).exists() {
-        println!("recordings are not checked: {program} not found");
+        println!("the recordings are not checked, since the program {program} does not exist");
         return;
     }
     for (index, recording) in recordings.iter().enumerate() {
@@ -61,9 +61,10 @@ fn registers_and_signs_in() {
     let made = browser.create(&creation_options()).unwrap();
     assert_eq!(made.authenticator_data[..32], sha256(b"example.com"));
     assert_eq!(made.authenticator_data[32], 0x41);
-    // {"fmt": "packed", "attStmt": {"alg": -7, "sig": signature of authenticator data and clientDataHash}, ..}
-    let (front, rest) = made.attestation_object.split_at(31);
-    assert_eq!(front, b"\xa3\x63fmt\x66packed\x67attStmt\xa2\x63alg\x26\x63sig\x58");
+    // The attestation object is CBOR: {"fmt": "packed", "attStmt": {"alg": -7, "sig": ..}, ..}. After this prefix, it
+    // has the length of sig in one byte, and sig: a signature over the authenticator data and clientDataHash.
+    let (prefix, rest) = made.attestation_object.split_at(31);
+    assert_eq!(prefix, b"\xa3\x63fmt\x66packed\x67attStmt\xa2\x63alg\x26\x63sig\x58");
     let signed = [&made.authenticator_data[..], &sha256(&made.client_data)].concat();
     assert!(browser.key.private_key(&made.id).unwrap().verify(&signed, &rest[1..=usize::from(rest[0])]));
     for expected in 1..4 {
@@ -79,7 +80,7 @@ fn registers_and_signs_in() {
     check_recordings(browser.key.recordings());
 }
 
-/// Options and responses as JSON, with a user name that must be escaped.
+/// Passes options as JSON, and gets responses as JSON. The user names have characters that JSON escapes.
 #[test]
 fn exchanges_json() {
     let mut browser = new_browser();
@@ -94,7 +95,7 @@ fn exchanges_json() {
     check_recordings(browser.key.recordings());
 }
 
-/// Flags, attestation and mediation, which are outside the core.
+/// Tests features that the verified core does not have: the flags UV, BE and BS, attestation "none", and mediation.
 #[test]
 fn applies_authenticator_options() {
     let mut browser = new_browser();
@@ -105,11 +106,11 @@ fn applies_authenticator_options() {
         "displayName":""},"pubKeyCredParams":[{"type":"public-key","alg":-7}],
         "authenticatorSelection":{"residentKey":"required","userVerification":"required"}}"#;
     let required = r#"{"challenge":"AA","rpId":"example.com","userVerification":"required"}"#;
-    // {"fmt": "none", "attStmt": {}, "authData": ..}, in base64url
+    // The expected text is the start of {"fmt": "none", "attStmt": {}, "authData": ..} in CBOR, in base64url.
     let made = browser.create_json(options).unwrap();
     assert!(made.contains(r#""attestationObject":"o2NmbXRkbm9uZWdhdHRTdG10oGhhdXRoRGF0Y"#), "{made}");
     assert_eq!(read_flags(&made), 0x5d);
-    // The flags BE and BS belong to the credential, so changing the options does not clear them.
+    // The credential keeps the flags BE and BS that it was created with, even if the options change.
     browser.key.options = verified;
     browser.mediation = "conditional".into();
     assert_eq!(read_flags(&browser.get_json(required).unwrap()), 0x1d);
@@ -126,13 +127,13 @@ fn applies_authenticator_options() {
     check_recordings(browser.key.recordings());
 }
 
-/// Returns the flags of a credential's JSON. In the base64url text, the RP ID hash (32 bytes) and the two highest bits
-/// of the flags take the first 43 characters.
+/// Returns the flags in the authenticator data of a credential's JSON. The flags are the byte after the RP ID hash (32
+/// bytes). In base64url, the characters at the offsets 42 and 43 encode its two highest and its six lowest bits.
 fn read_flags(json: &str) -> u8 {
     const ALPHABET: &[u8] = b"ABCDEFGHIJKLMNOPQRSTUVWXYZabcdefghijklmnopqrstuvwxyz0123456789-_";
     let (_, data) = json.split_once(r#""authenticatorData":""#).unwrap();
-    let bits = |at: usize| ALPHABET.iter().position(|letter| *letter == data.as_bytes()[at]).unwrap();
-    (bits(42) << 6 | bits(43)) as u8
+    let bits = |offset: usize| ALPHABET.iter().position(|letter| *letter == data.as_bytes()[offset]).unwrap();
+    ((bits(42) << 6) | bits(43)) as u8
 }
 
 #[test]
@@ -147,7 +148,8 @@ fn follows_presence_sequence() {
     check_recordings(browser.key.recordings());
 }
 
-/// If the key rejected a request, the error ends with the key's cause. The error of an injected status has no cause.
+/// Tests that an error ends with the key's cause if the key rejected the request, and has no cause if a status was
+/// injected.
 #[test]
 fn errors_end_with_causes() {
     let mut browser = new_browser();
@@ -180,7 +182,7 @@ fn rejects_invalid_calls() {
             Some("SecurityError")
         );
     }
-    // Options without rp, user or pubKeyCredParams.
+    // Options that lack the required members rp, user and pubKeyCredParams.
     let bare = browser.create_json(r#"{"challenge":"AAECAwQFBgcICQoLDA0ODw"}"#).unwrap_err();
     assert_eq!(bare.dom_name(), Some("TypeError"));
     let nobody = browser.get(&RequestOptions { allow: vec![[9; 32]], ..request_options() });

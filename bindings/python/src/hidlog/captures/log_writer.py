@@ -9,13 +9,14 @@ from .. import logs
 from .. import packets as hid
 from ..errors import LogError
 from ..log_lines import format_comments
+from ..standard import KEEPALIVE_MS
 from .inference import PacketWithReplies, TimedPacket, infer_replies
 from .packet_store import Packet, Stream
 from .source import CaptureError
 
 # Minimum delay in ms before a packet of the key for which a tick records the packet's time. This is the KEEPALIVE
 # interval, within which a key's behavior does not depend on time.
-_TICK_MS = 100
+_TICK_MS = KEEPALIVE_MS
 _UNKNOWN = "none is known"
 # Nanoseconds from 1970 to the year 10000, the latest plausible timestamp.
 _MAX_TIMESTAMP_NS = 253_402_300_800 * 10**9

@@ -46,7 +46,7 @@ class PacketStore:
         self.empty = 0
 
     def append(self, packet: Packet, endpoint: int = 0) -> int:
-        """Adds a packet. Returns the packet's index."""
+        """Adds a packet. Returns its offset in the file, for `set_lost` and `read_from`."""
         members = marshal.dumps((endpoint, packet.at, packet.sent, packet.data, packet.comments, packet.late))
         place = self._size
         self._size += self._file.write(_HEAD.pack(_clamp(packet.lost), len(members)) + members)
@@ -62,13 +62,13 @@ class PacketStore:
             self.append(packet)
 
     def set_lost(self, place: int, status: int) -> None:
-        """Sets the status of a failed transfer for the packet at an index."""
+        """Sets the status of a failed transfer for the packet at this offset in the file."""
         self._file.seek(place)
         self._file.write(_LOST.pack(_clamp(status)))
         self._file.seek(self._size)
 
     def read_from(self, place: int = 0) -> Iterator[tuple[int, int, Packet]]:
-        """Yields the index and the endpoint of each packet, and the packet, beginning at an index."""
+        """Yields each packet from an offset on: its offset in the file, its endpoint and the packet."""
         block, offset = b"", 0
         while place < self._size:
             start = end = offset + _HEAD.size
