@@ -1,4 +1,4 @@
-// An OpenSSH security key provider (SSH_SK_PROVIDER) with an in-memory key instead of a device.
+// An OpenSSH security key provider (a library for SSH_SK_PROVIDER) that uses an in-memory key instead of a USB key.
 //
 //     gcc -shared -fPIC -fvisibility=hidden -I release -I examples/c -o libhidlog_sk.so
 //     bridges/ssh/{hidlog_sk,state}.c
@@ -21,7 +21,7 @@
 #include <stdlib.h>
 #include <string.h>
 
-// Not thread-safe: OpenSSH calls the provider from one thread of a helper program.
+// Not protected by a lock, since OpenSSH calls the provider from only one thread of its helper program.
 static struct state state;
 
 static fido_dev_t *open_device(void) {
@@ -59,7 +59,8 @@ static int to_sk_error(int error) {
     }
 }
 
-// Copies bytes into a new buffer of a response.
+// Copies bytes into a newly allocated buffer, and stores the buffer and its length in a response's members `to` and
+// `to_len`. Returns false if there are no bytes or there is no memory.
 static bool copy_bytes(uint8_t **to, size_t *to_len, const uint8_t *bytes, size_t len) {
     *to = bytes == NULL ? NULL : malloc(len);
     if (*to == NULL) {
@@ -104,8 +105,8 @@ static struct sk_enroll_response *to_enroll_response(const fido_cred_t *cred, ui
     return response;
 }
 
-// Reads OpenSSH's user handle: the option "user", zero-padded to 32 bytes, or 32 zeros. Returns false if another
-// option, or a longer user, is required.
+// Reads the user handle from OpenSSH's options: the value of the option "user", zero-padded to 32 bytes, or 32 zeros
+// without that option. Returns false if a required option is another one, or is a user of more than 32 bytes.
 static bool read_user(struct sk_option **options, uint8_t user[32]) {
     memset(user, 0, 32);
     for (size_t i = 0; options != NULL && options[i] != NULL; i++) {
@@ -119,8 +120,8 @@ static bool read_user(struct sk_option **options, uint8_t user[32]) {
     return true;
 }
 
-// Returns whether the key has a discoverable credential for this application and user, which a new credential would
-// replace.
+// Returns whether the key has a discoverable credential for this application and user. A new discoverable credential
+// would replace it.
 static bool has_credential(const char *application, const uint8_t user[32]) {
     struct hidlog_credential found;
     for (size_t i = 0; hidlog_key_get_credential(&state.vkey.key, i, &found) == 0; i++) {
@@ -181,7 +182,7 @@ int sk_enroll(uint32_t alg, const uint8_t *challenge, size_t challenge_len, cons
     return result;
 }
 
-// Copies an integer of a signature (r or s) into a response, without leading zeros.
+// Copies r or s, the two integers of a signature, into a newly allocated buffer of a response, without leading zeros.
 static bool copy_number(uint8_t **to, size_t *to_len, const BIGNUM *number) {
     uint8_t bytes[32];
     int len = BN_num_bytes(number) <= 32 ? BN_bn2bin(number, bytes) : 0;
@@ -207,7 +208,8 @@ static struct sk_sign_response *to_sign_response(const fido_assert_t *assertion)
     return response;
 }
 
-// Signs in, and saves the key in any case: even a rejected sign-in may have incremented the signature counter.
+// Requests an assertion from the key, and saves the key's state even if the key rejects the request, since the
+// signature counter may have been incremented before.
 static int sign(fido_dev_t *device, fido_assert_t *assertion, struct sk_sign_response **response) {
     int error = fido_dev_get_assert(device, assertion, NULL);
     bool is_saved = state_save(&state);

@@ -1,5 +1,5 @@
-// The interface of SSH_SK_PROVIDER libraries for OpenSSH 8.9 to 9.x, API major version 10, as in OpenSSH's
-// PROTOCOL.u2f and sk-api.h. The provider allocates responses with malloc, and OpenSSH frees them.
+// The functions and types of a library for SSH_SK_PROVIDER, as OpenSSH 8.9 to 9.x defines them in PROTOCOL.u2f and
+// sk-api.h (API major version 10). The library allocates responses with malloc, and OpenSSH frees them.
 #ifndef SK_API_H
 #define SK_API_H
 
@@ -56,7 +56,7 @@ struct sk_resident_key {
     size_t user_id_len;
 };
 
-// Options end with a NULL.
+// A named option of a call. A list of options is an array of pointers that ends with NULL.
 struct sk_option {
     char *name;
     char *value;

@@ -20,9 +20,9 @@ static const struct record *find_record(const struct state *state, const uint8_t
     return NULL;
 }
 
-// Adds the key pair of each credential: the public key is in the snapshot, the private key in the credential's record.
-// Returns false unless each credential has exactly one record, with the private key of its public key.
-static bool add_keys(struct state *state) {
+// Gives the virtual key the key pairs of all credentials: the public key of each is in the snapshot, its private key in
+// the credential's record. Returns false unless each credential has exactly one record, and its private key matches.
+static bool add_key_pairs(struct state *state) {
     struct hidlog_credential credential;
     bool is_done = hidlog_key_credential_count(&state->vkey.key) == (int32_t)state->count;
     for (size_t i = 0; is_done && hidlog_key_get_credential(&state->vkey.key, i, &credential) == 0; i++) {
@@ -41,7 +41,8 @@ static bool add_keys(struct state *state) {
     return is_done;
 }
 
-// Reads the records of a file. Returns the offset of the snapshot, or 0 if the file is invalid.
+// Reads the records from the contents of a state file. Returns the offset of the snapshot that follows them, or 0 if
+// the contents are invalid.
 static size_t read_records(struct state *state, const uint8_t *bytes, size_t len) {
     if (len < STATE_RECORDS_AT || bytes[STATE_COUNT_AT] > SOFTWARE_KEYS) {
         return 0;
@@ -68,7 +69,8 @@ static bool compute_checksum(const uint8_t *bytes, size_t len, uint8_t sum[STATE
     return EVP_Digest(bytes, len, sum, NULL, EVP_sha256(), NULL) == 1;
 }
 
-// Subtracts the checksum from the length of a file. Returns false if the checksum is wrong.
+// Verifies the checksum at the end of a state file's contents, and reduces *len to the length without the checksum.
+// Returns false if the checksum is wrong.
 static bool remove_checksum(const uint8_t *bytes, size_t *len) {
     uint8_t sum[STATE_SUM];
     if (*len < sizeof magic + sizeof sum || !compute_checksum(bytes, *len - sizeof sum, sum)) {
@@ -84,24 +86,24 @@ const char *state_read(struct state *state, const uint8_t *bytes, size_t len) {
             return "the file is damaged: its checksum does not match its contents";
         }
     } else if (!begins_with(bytes, len, magic_without_sum)) {
-        return "the file is not a state file, or is damaged";
+        return "the file is not a state file: it begins with neither hidlogS2 nor hidlogS1";
     }
     size_t snapshot = read_records(state, bytes, len);
     if (snapshot == 0) {
-        return "the file is not a state file, or is damaged";
+        return "the file is damaged: its records are incomplete or invalid";
     }
     if (!virtual_key_open(&state->vkey, bytes + snapshot, len - snapshot)) {
         return "the credentials are damaged, or there is not enough memory";
     }
-    if (!add_keys(state)) {
+    if (!add_key_pairs(state)) {
         virtual_key_close(&state->vkey);
         return "the private keys do not match the credentials";
     }
     return NULL;
 }
 
-// Reads the key from the file, which is already locked.
-static bool open_locked(struct state *state) {
+// Reads the key from the state file, which the caller has locked. Without a file, creates a key without credentials.
+static bool open_locked_state(struct state *state) {
     long len = private_file_read(state->path, state->saved, sizeof state->saved);
     if (len == PRIVATE_FILE_REFUSED) {
         return false;
@@ -121,7 +123,7 @@ bool state_open(struct state *state) {
     const char *path = getenv("HIDLOG_SK_STATE");
     memset(state, 0, sizeof *state);
     if (path == NULL || *path == 0 || strlen(path) >= sizeof state->path) {
-        fprintf(stderr, "hidlog: HIDLOG_SK_STATE must be the path of the state file\n");
+        fprintf(stderr, "hidlog: the environment variable HIDLOG_SK_STATE must be the path of the state file\n");
         return false;
     }
     strcpy(state->path, path);
@@ -129,7 +131,7 @@ bool state_open(struct state *state) {
     if (state->lock < 0) {
         return false;
     }
-    if (!open_locked(state)) {
+    if (!open_locked_state(state)) {
         close(state->lock);
         OPENSSL_cleanse(state, sizeof *state);
         return false;
@@ -184,13 +186,13 @@ size_t state_write(struct state *state, uint8_t bytes[STATE_MAX_BYTES]) {
 bool state_save(struct state *state) {
     static uint8_t bytes[STATE_MAX_BYTES];
     if (hidlog_key_credential_count(&state->vkey.key) < 0) {
-        fprintf(stderr, "hidlog: %s: the key is not initialized: nothing was saved, and the file is unchanged\n",
+        fprintf(stderr, "hidlog: %s: the key is not initialized, so nothing was saved, and the file is unchanged\n",
                 state->path);
         return false;
     }
     size_t len = state_write(state, bytes);
     if (len == 0) {
-        fprintf(stderr, "hidlog: %s: out of memory for the checksum: nothing was saved, and the file is unchanged\n",
+        fprintf(stderr, "hidlog: %s: out of memory for the checksum, so nothing was saved, and the file is unchanged\n",
                 state->path);
         OPENSSL_cleanse(bytes, sizeof bytes);
         return false;

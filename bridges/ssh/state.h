@@ -1,5 +1,5 @@
-// An in-memory key whose state is kept in a file: credentials, signature counters and private keys. A program locks the
-// file while it uses the key. The private keys are stored in clear text, so this is for tests only.
+// An in-memory key whose credentials, signature counters and private keys are kept in a state file. A program that uses
+// the key holds a lock on the file. The private keys are stored in clear text, so this is for tests only.
 #ifndef STATE_H
 #define STATE_H
 
@@ -8,16 +8,17 @@
 
 enum { APPLICATION = 64 };
 
-// What the snapshot lacks about a credential: the private key, and the name of the application (the RP ID), of which the
-// snapshot has only the hash.
+// What the state file stores about a credential in addition to the snapshot: the private key, and the name of the
+// application (the RP ID), since the snapshot has only its hash.
 struct record {
     uint8_t id[32];
     uint8_t secret[32];
     char application[APPLICATION]; // zero-padded
 };
 
-// Layout of the file: magic, number of records, records, snapshot, and the SHA-256 of all preceding bytes. Files of
-// older versions have another magic and no checksum.
+// Offsets and sizes in the state file. The file has 8 bytes that identify the format ("hidlogS2"), the number of
+// records, the records, the snapshot, and the SHA-256 of all preceding bytes. Older files begin with "hidlogS1" and
+// have no SHA-256.
 enum { STATE_COUNT_AT = 8, STATE_RECORDS_AT = 9, STATE_SUM = 32 };
 enum { STATE_MAX_BYTES = STATE_RECORDS_AT + SOFTWARE_KEYS * sizeof(struct record) + HIDLOG_SNAPSHOT_MAX_LEN + STATE_SUM };
 
@@ -31,26 +32,26 @@ struct state {
     int lock;
 };
 
-// Opens the key that is stored in the file $HIDLOG_SK_STATE, or a new key if there is no file. A file that cannot be
-// read, is damaged, or may be read or written by others is rejected and left unchanged.
+// Locks the file $HIDLOG_SK_STATE and opens the key that it stores, or a key without credentials if there is no file.
+// Returns false, without changing the file, if it cannot be read, is damaged, or other users may read or write it.
 bool state_open(struct state *state);
 
-// Initializes the key from the contents of a file, as state_open does. Returns NULL, or an error message.
+// Initializes the key from the contents of a state file. Returns NULL, or an error message.
 const char *state_read(struct state *state, const uint8_t *bytes, size_t len);
 
 // Writes the contents of the state file to `bytes`, for state_read. Returns the length, or 0 if there is no memory for
 // the checksum.
 size_t state_write(struct state *state, uint8_t bytes[STATE_MAX_BYTES]);
 
-// Records the application of a new credential. Returns false if the credential has no private key, there are too many
-// credentials, or the application is too long.
+// Adds a record with the application and the private key of a new credential. Returns false if the key has no private
+// key for this ID, there are too many records, or the application's name is too long.
 bool state_add(struct state *state, const uint8_t id[32], const char *application);
 
-// Returns the application of a credential, or NULL.
+// Returns the application in the record of the credential with this ID, or NULL if there is no record.
 const char *state_application(const struct state *state, const uint8_t id[32]);
 
-// Replaces the file atomically, so that no increment of a signature counter is lost. Error messages go to standard
-// error and state whether the old file is kept. Does nothing if nothing has changed.
+// Replaces the state file atomically if the key's state has changed. Returns false on failure; then the error message
+// on standard error says whether the old file is unchanged.
 bool state_save(struct state *state);
 
 void state_close(struct state *state);

@@ -30,12 +30,12 @@ static const struct option long_options[] = {
     {"version", no_argument, NULL, 'V'},        {0},
 };
 
-// Parses the number of an option. Returns false if the number is invalid.
-static bool parse_number(const char *word, uint64_t *read) {
+// Parses an option's value as a number from 0 to INT_MAX. Returns false if it is not one.
+static bool parse_number(const char *word, uint64_t *number) {
     char *end;
     errno = 0;
-    *read = strtoull(word, &end, 10);
-    return *word >= '0' && *word <= '9' && *end == 0 && errno == 0 && *read <= INT_MAX;
+    *number = strtoull(word, &end, 10);
+    return *word >= '0' && *word <= '9' && *end == 0 && errno == 0 && *number <= INT_MAX;
 }
 
 static bool print_help(const char *text) {
@@ -56,22 +56,22 @@ static bool report_invalid_number(const char *option, const char *word) {
     return print_usage();
 }
 
-// Option values that options_parse converts after all options have been parsed.
+// The values of options that options_parse converts only after all options have been parsed.
 struct option_values {
     const char *presence;
     uint64_t touch, descriptor;
 };
 
-// Parses one option. Returns false if its value is invalid.
-static bool parse_option(struct options *options, struct option_values *read, int option) {
+// Parses the option with this letter, and stores its value. Returns false if the option or its value is invalid.
+static bool parse_option(struct options *options, struct option_values *values, int option) {
     switch (option) {
     case 'p':
-        read->presence = optarg;
+        values->presence = optarg;
         return true;
     case 't':
-        return parse_number(optarg, &read->touch) || report_invalid_number("--touch", optarg);
+        return parse_number(optarg, &values->touch) || report_invalid_number("--touch", optarg);
     case 'f':
-        return parse_number(optarg, &read->descriptor) || report_invalid_number("--fd", optarg);
+        return parse_number(optarg, &values->descriptor) || report_invalid_number("--fd", optarg);
     case 'r':
         options->recorded = optarg;
         return true;
@@ -84,23 +84,23 @@ static bool parse_option(struct options *options, struct option_values *read, in
 }
 
 bool options_parse(struct options *options, int count, char **words) {
-    struct option_values read = {"granted", 200, UINT64_MAX};
+    struct option_values values = {"granted", 200, UINT64_MAX};
     memset(options, 0, sizeof *options);
     for (int option; (option = getopt_long(count, words, "p:t:r:s:f:hV", long_options, NULL)) != -1;) {
         options->is_help = option == 'h' || option == 'V';
         if (options->is_help) {
             return print_help(option == 'h' ? help : "hidlog-uhid " HIDLOG_VERSION "\n");
         }
-        if (!parse_option(options, &read, option)) {
+        if (!parse_option(options, &values, option)) {
             return false;
         }
     }
     int left = count - optind;
     if (left != (options->state == NULL ? 1 : 0)) {
-        fprintf(stderr, "hidlog-uhid: the state file must be given exactly once, as STATE or with --state\n");
+        fprintf(stderr, "hidlog-uhid: expected exactly one state file, as the argument STATE or with --state\n");
         return print_usage();
     }
     options->state = left == 1 ? words[optind] : options->state;
-    options->device = read.descriptor <= INT_MAX ? (int)read.descriptor : -1;
-    return user_parse(&options->user, read.presence, read.touch);
+    options->device = values.descriptor <= INT_MAX ? (int)values.descriptor : -1;
+    return user_parse(&options->user, values.presence, values.touch);
 }

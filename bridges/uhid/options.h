@@ -12,8 +12,8 @@ struct options {
     bool is_help;         // help or the version was requested and printed
 };
 
-// Parses the options, and prints the help or the version if requested. On an error, prints the error to standard error
-// and returns false.
+// Parses the command line into *options. Prints the help or the version instead if one of them is requested. Returns
+// false after an error, which is printed to standard error.
 bool options_parse(struct options *options, int count, char **words);
 
 #endif

@@ -1,5 +1,6 @@
-// The queue of packets for the key, fair between channels: a channel that floods the queue delays each other channel by
-// one packet per turn, and loses its own packets if the queue is full.
+// The queue of packets that programs have sent to the key. It is fair between senders: packets are taken in turns, and
+// each sender has one packet per turn. So a sender that floods the queue delays others by one packet per turn, and if
+// the queue is full, loses its own packets.
 #ifndef PACKET_QUEUE_H
 #define PACKET_QUEUE_H
 
@@ -7,7 +8,7 @@
 #include <stddef.h>
 #include <stdint.h>
 
-// The queue holds at least three messages, which have at most 129 packets each.
+// Capacity of the queue, and size of a packet. A message has at most 129 packets, so three messages always fit.
 enum { QUEUE_CAPACITY = 512, QUEUE_PACKET = 64 };
 
 struct waiting_packet {
@@ -22,14 +23,14 @@ struct packet_queue {
     uint32_t channel; // the highest channel that the key has allocated
 };
 
-// Adds a packet. If the queue is full, drops the last packet with the highest turn, which may be the new one.
+// Adds a packet. If the queue is full, drops the packet that would be taken last, which may be the new one.
 void packet_queue_add(struct packet_queue *queue, const uint8_t packet[QUEUE_PACKET]);
 
-// Records the new channel if this packet, which the key sent, allocates one. All channels that are not allocated count
-// as one sender.
+// If this packet, which the key sent, is a response to INIT on the broadcast channel, records the channel ID that it
+// allocates. Packets on channels that are not allocated count as packets from one sender.
 void packet_queue_record_channel(struct packet_queue *queue, const uint8_t packet[QUEUE_PACKET]);
 
-// Moves the next packet from the queue to `packet`. Returns false if the queue is empty.
+// Removes the packet whose turn is next from the queue, and copies it to `packet`. Returns false if the queue is empty.
 bool packet_queue_take(struct packet_queue *queue, uint8_t packet[QUEUE_PACKET]);
 
 #endif

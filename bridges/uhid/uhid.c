@@ -1,11 +1,11 @@
-// A virtual USB security key for Linux: creates /dev/hidrawN through /dev/uhid, so that browsers, libfido2 and OpenSSH
-// find the key as if it were plugged in.
+// hidlog-uhid, a virtual USB security key for Linux: makes the kernel create a device /dev/hidrawN, through /dev/uhid,
+// so that browsers, libfido2 and OpenSSH find an in-memory key like a USB key that is plugged in.
 //
 //     gcc -I release -I examples/c -I bridges/ssh -o hidlog-uhid bridges/uhid/*.c bridges/ssh/state.c
 //         examples/c/{virtual_key,private_file,software_keys,snapshot}.c release/libhidlog.a -lcrypto
 //     sudo ./hidlog-uhid --record session.log key.state
 //
-// For tests only: the private keys are stored in the file in clear text.
+// For tests only: the private keys are stored in clear text in the state file.
 #define _POSIX_C_SOURCE 200809L
 #include "options.h"
 #include "packet_queue.h"
@@ -28,9 +28,8 @@
 #include <time.h>
 #include <unistd.h>
 
-// A KEEPALIVE is due every 100 ms, and an incomplete message times out after 500 ms. A log line has at most 255 bytes,
-// and its output at most 18,000. The kernel
-// queues fewer than 64 events.
+// The key sends a KEEPALIVE every 100 ms, and an incomplete message times out after 500 ms. A log line has at most 255
+// bytes, and hidlog_key_replay_lines writes at most 18,000 for it. The kernel queues fewer than 64 events.
 enum {
     KEEPALIVE_MS = 100,
     MESSAGE_MS = 500,
@@ -41,8 +40,8 @@ enum {
     PATH = 4096
 };
 
-// The report descriptor of CTAP 2.1, "HID report descriptor and device discovery": usage page 0xF1D0, 64 bytes each
-// way.
+// The HID report descriptor of a FIDO device (CTAP 2.1, section 11.2.8): usage page 0xF1D0, reports of 64 bytes in
+// both directions.
 static const uint8_t descriptor[] = {0x06, 0xd0, 0xf1, 0x09, 0x01, 0xa1, 0x01, 0x09, 0x20, 0x15, 0x00, 0x26,
                                      0xff, 0x00, 0x75, 0x08, 0x95, 0x40, 0x81, 0x02, 0x09, 0x21, 0x15, 0x00,
                                      0x26, 0xff, 0x00, 0x75, 0x08, 0x95, 0x40, 0x91, 0x02, 0xc0};
@@ -52,8 +51,8 @@ static struct packet_queue queue;
 static int device = -1;
 static int recording = -1;
 static struct options options;
-static uint64_t ticked; // time of the last tick while the key waits for the user
-static bool is_asked;   // whether the key waits for the user
+static uint64_t last_tick_ms; // time of the last tick while the key waits for the user
+static bool is_user_asked;    // whether the key waits for the user
 
 static uint64_t now_ms(void) {
     struct timespec time;
@@ -61,8 +60,9 @@ static uint64_t now_ms(void) {
     return (uint64_t)time.tv_sec * 1000 + (uint64_t)time.tv_nsec / 1000000 - state.vkey.powered_up;
 }
 
-static bool print_system_error(const char *what) {
-    fprintf(stderr, "hidlog-uhid: %s: %s\n", what, strerror(errno));
+// Prints what failed (an action or a path), and why, by errno. Returns false.
+static bool print_system_error(const char *failed) {
+    fprintf(stderr, "hidlog-uhid: %s: %s\n", failed, strerror(errno));
     return false;
 }
 
@@ -77,7 +77,7 @@ static unsigned parse_hex_digit(uint8_t letter) {
     return (unsigned)(letter <= '9' ? letter - '0' : letter - 'a' + 10);
 }
 
-// Sends a packet from the key to the kernel.
+// Sends a packet of the key, which is in hexadecimal, to the kernel.
 static bool send_packet(const uint8_t digits[2 * PACKET]) {
     struct uhid_event event = {.type = UHID_INPUT2};
     event.u.input2.size = PACKET;
@@ -89,11 +89,12 @@ static bool send_packet(const uint8_t digits[2 * PACKET]) {
 }
 
 static bool report_missing_private_key(void) {
-    fprintf(stderr, "hidlog-uhid: cannot save the key: a new credential has no private key\n");
+    fprintf(stderr, "hidlog-uhid: cannot save the key's state: no private key for a new credential\n");
     return false;
 }
 
-// Saves the key. The application (RP ID) of a new credential is left empty, since the key knows only the RP ID's hash.
+// Saves the key's state. The application (RP ID) of a new credential is stored as an empty string, since the key knows
+// only the RP ID's hash.
 static bool save_state(void) {
     struct hidlog_credential credential;
     for (size_t i = 0; hidlog_key_get_credential(&state.vkey.key, i, &credential) == 0; i++) {
@@ -104,14 +105,14 @@ static bool save_state(void) {
     return state_save(&state);
 }
 
-// Passes a log line to the key and sends the response packets. If the line is a reply, saves the key before sending,
-// since the credentials may have changed.
-static bool play(const char *line) {
+// Passes an input to the key, as its log line, and sends the packets that the key sends. After presence, a key pair or
+// a signature, saves the key's state before it sends them, since the credentials may have changed.
+static bool pass_line(const char *line) {
     static uint8_t text[MAX_TEXT];
     struct hidlog_result result;
     if (hidlog_key_replay_lines(&state.vkey.key, (const uint8_t *)line, strlen(line), text, sizeof text, &result) !=
         0) {
-        fprintf(stderr, "hidlog-uhid: the key rejected this log line: %s", line);
+        fprintf(stderr, "hidlog-uhid: the key rejected an input, whose log line is: %s", line);
         return false;
     }
     if (recording >= 0 && !write_all(recording, text, result.written)) {
@@ -128,21 +129,21 @@ static bool play(const char *line) {
     return true;
 }
 
-// Passes a log line to the key: a letter, the current timestamp and, unless it is empty, a word.
-static bool play_word(char letter, const char *word) {
+// Passes an input to the key. Its log line is the letter, the current timestamp, and the word unless it is empty.
+static bool pass_input(char letter, const char *word) {
     char line[MAX_LINE + 2];
     snprintf(line, sizeof line, "%c %llu%s%s\n", letter, (unsigned long long)now_ms(), *word == 0 ? "" : " ", word);
-    return play(line);
+    return pass_line(line);
 }
 
-static bool play_bytes(char letter, const uint8_t *bytes, size_t len) {
+static bool pass_bytes(char letter, const uint8_t *bytes, size_t len) {
     char word[2 * MAX_SIGNATURE + 1];
     write_hex(word, bytes, len);
-    return play_word(letter, word);
+    return pass_input(letter, word);
 }
 
-// Frees each key pair that belongs to no credential.
-static void free_unused_pairs(void) {
+// Frees the key pairs that belong to no credential in the state, such as those of replaced credentials.
+static void free_unused_key_pairs(void) {
     for (size_t i = 0; i < SOFTWARE_KEYS; i++) {
         struct software_key *pair = &state.vkey.keys.slots[i];
         if (pair->pair != NULL && state_application(&state, pair->id) == NULL) {
@@ -154,27 +155,27 @@ static void free_unused_pairs(void) {
 
 static bool provide_key_pair(void) {
     char word[MAX_LINE];
-    free_unused_pairs();
+    free_unused_key_pairs();
     const struct software_key *pair = software_keys_generate(&state.vkey.keys);
     if (pair == NULL) {
-        return play_word('k', "no");
+        return pass_input('k', "no");
     }
     char *at = write_hex(word, pair->id, sizeof pair->id);
     *at = ' ';
     at = write_hex(at + 1, pair->x, sizeof pair->x);
     *at = ' ';
     write_hex(at + 1, pair->y, sizeof pair->y);
-    return play_word('k', word);
+    return pass_input('k', word);
 }
 
 static bool provide_signature(const struct hidlog_need *need) {
     uint8_t signature[MAX_SIGNATURE];
     size_t len = software_keys_sign(&state.vkey.keys, need->id, need->to_sign, need->to_sign_len, signature);
-    return len == 0 ? play_word('s', "no") : play_bytes('s', signature, len);
+    return len == 0 ? pass_input('s', "no") : pass_bytes('s', signature, len);
 }
 
-// Provides what the key needs: a key pair, a signature, or the user's reply. While the user has not replied, advances
-// the time.
+// Provides what the key needs: a key pair, a signature, or what the user did. If the user has not done anything yet,
+// sends a tick if a KEEPALIVE is due.
 static bool provide_need(const struct hidlog_need *need) {
     const char *word;
     switch (need->kind) {
@@ -185,11 +186,11 @@ static bool provide_need(const struct hidlog_need *need) {
     case HIDLOG_NEED_PRESENCE:
         word = user_take_reply(&options.user, now_ms());
         if (word != NULL) {
-            return play_word('p', word);
+            return pass_input('p', word);
         }
-        if (now_ms() - ticked >= KEEPALIVE_MS) {
-            ticked = now_ms();
-            return play_word('t', "");
+        if (now_ms() - last_tick_ms >= KEEPALIVE_MS) {
+            last_tick_ms = now_ms();
+            return pass_input('t', "");
         }
         return true;
     default:
@@ -197,25 +198,26 @@ static bool provide_need(const struct hidlog_need *need) {
     }
 }
 
-// Passes the next packet to the key, if any.
-static bool play_next_packet(void) {
+// Passes the next packet in the queue to the key, if any.
+static bool pass_next_packet(void) {
     uint8_t packet[PACKET];
-    return !packet_queue_take(&queue, packet) || play_bytes('>', packet, sizeof packet);
+    return !packet_queue_take(&queue, packet) || pass_bytes('>', packet, sizeof packet);
 }
 
-// Called when the last program closes the device. Passes the packets still queued to the key, and ends a request that
-// waits for user presence with a timeout.
+// Handles the event that the last program has closed the device: passes all queued packets to the key, and if the key
+// then needs user presence, reports that the user did nothing.
 static bool handle_close(void) {
     struct hidlog_need need;
     while (queue.count > 0) {
-        if (!play_next_packet()) {
+        if (!pass_next_packet()) {
             return false;
         }
     }
-    return hidlog_key_get_need(&state.vkey.key, &need) != HIDLOG_NEED_PRESENCE || play_word('p', "timeout");
+    return hidlog_key_get_need(&state.vkey.key, &need) != HIDLOG_NEED_PRESENCE || pass_input('p', "timeout");
 }
 
-// Reads a kernel event, and handles it if a program wrote to the device or the last program closed it.
+// Reads one event from the kernel. Queues the packet if a program wrote one to the device, and calls handle_close if
+// the last program closed the device. Ignores other events.
 static bool handle_event(void) {
     struct uhid_event event = {0};
     ssize_t len = read(device, &event, sizeof event);
@@ -229,22 +231,22 @@ static bool handle_event(void) {
     if (event.type != UHID_OUTPUT) {
         return true;
     }
-    // Skip the report ID, 0, before the packet, and pad a short packet with zeros.
-    size_t number = event.u.output.size > PACKET ? 1 : 0;
-    size_t size = event.u.output.size - number;
-    memset(event.u.output.data + number + (size < PACKET ? size : PACKET), 0, size < PACKET ? PACKET - size : 0);
-    packet_queue_add(&queue, event.u.output.data + number);
+    // Skip the report ID (0) before the packet, if any, and pad a short packet with zeros.
+    size_t skipped = event.u.output.size > PACKET ? 1 : 0;
+    size_t size = event.u.output.size - skipped;
+    memset(event.u.output.data + skipped + (size < PACKET ? size : PACKET), 0, size < PACKET ? PACKET - size : 0);
+    packet_queue_add(&queue, event.u.output.data + skipped);
     return true;
 }
 
-// Handles the queued events, so that the kernel drops none. Handles at most MAX_EVENTS, in case a program floods the
-// device.
+// Handles all events that the kernel has queued, so that its queue doesn't overflow. Returns after MAX_EVENTS events
+// even if there are more, in case a program floods the device.
 static bool handle_events(void) {
     struct pollfd file = {.fd = device, .events = POLLIN};
     for (int i = 0; i < MAX_EVENTS; i++) {
         int ready = poll(&file, 1, 0);
         if (ready < 0) {
-            return print_system_error("cannot wait for events");
+            return print_system_error("cannot check for events of /dev/uhid");
         }
         if (ready == 0) {
             return true;
@@ -256,42 +258,44 @@ static bool handle_events(void) {
     return true;
 }
 
-// Returns how long to wait for events in milliseconds, or -1 for no limit.
-static int poll_timeout_ms(uint32_t kind, bool is_idle) {
+// Returns the maximum time to wait for events in milliseconds, or -1 for no limit. `kind` is what the key needs.
+static int get_poll_timeout_ms(uint32_t kind, bool is_idle) {
     if (queue.count > 0 || kind == HIDLOG_NEED_KEY_PAIR || kind == HIDLOG_NEED_SIGNATURE) {
         return 0;
     }
     if (kind == HIDLOG_NEED_NONE) {
         return is_idle ? -1 : MESSAGE_MS;
     }
-    uint64_t time = now_ms(), keepalive = ticked + KEEPALIVE_MS;
-    uint64_t due = keepalive < options.user.due ? keepalive : options.user.due;
-    return due <= time ? 0 : (int)(due - time);
+    uint64_t now = now_ms(), keepalive_ms = last_tick_ms + KEEPALIVE_MS;
+    uint64_t due_ms = keepalive_ms < options.user.due_ms ? keepalive_ms : options.user.due_ms;
+    return due_ms <= now ? 0 : (int)(due_ms - now);
 }
 
-// Returns what the key needs now. Starts asking the user if the key did not need user presence before.
+// Stores what the key needs now in *need, and returns its kind. If the key has just started to need user presence,
+// starts to ask the user.
 static uint32_t update_need(struct hidlog_need *need) {
     uint32_t kind = (uint32_t)hidlog_key_get_need(&state.vkey.key, need);
-    if (kind == HIDLOG_NEED_PRESENCE && !is_asked) {
-        ticked = now_ms();
-        user_start_asking(&options.user, ticked);
+    if (kind == HIDLOG_NEED_PRESENCE && !is_user_asked) {
+        last_tick_ms = now_ms();
+        user_start_asking(&options.user, last_tick_ms);
     }
-    is_asked = kind == HIDLOG_NEED_PRESENCE;
+    is_user_asked = kind == HIDLOG_NEED_PRESENCE;
     return kind;
 }
 
-// Serves until a signal arrives. Each round handles the queued events, passes one packet to the key, and provides what
-// the key needs, so that a program that floods the device does not block the others.
-static bool run(int signals) {
+// Handles requests until a signal arrives at the descriptor `signals`. Each iteration handles the kernel's queued
+// events, but passes only one packet to the key, and provides what the key needs, so that a program that floods the
+// device does not block other programs.
+static bool handle_requests(int signals) {
     struct pollfd files[] = {{.fd = device, .events = POLLIN}, {.fd = signals, .events = POLLIN}, {.events = POLLIN}};
     struct hidlog_need need;
     bool is_idle = true;
     for (;;) {
         uint32_t kind = update_need(&need);
-        files[2].fd = is_asked && user_expects_input(&options.user) ? STDIN_FILENO : -1;
-        int ready = poll(files, 3, poll_timeout_ms(kind, is_idle));
+        files[2].fd = is_user_asked && user_expects_input(&options.user) ? STDIN_FILENO : -1;
+        int ready = poll(files, 3, get_poll_timeout_ms(kind, is_idle));
         if (ready < 0) {
-            return print_system_error("cannot wait for events");
+            return print_system_error("cannot wait for events of /dev/uhid");
         }
         if (files[1].revents != 0) {
             return true;
@@ -300,31 +304,31 @@ static bool run(int signals) {
             user_read_input(&options.user);
         }
         bool is_quiet = ready == 0 && kind == HIDLOG_NEED_NONE && queue.count == 0;
-        // Advance the time, so that an incomplete message times out.
-        if (is_quiet && !play_word('t', "")) {
+        // Send a tick, so that an incomplete message times out.
+        if (is_quiet && !pass_input('t', "")) {
             return false;
         }
         is_idle = is_quiet;
-        if (!provide_need(&need) || (files[0].revents != 0 && !handle_events()) || !play_next_packet()) {
+        if (!provide_need(&need) || (files[0].revents != 0 && !handle_events()) || !pass_next_packet()) {
             return false;
         }
     }
 }
 
-static bool open_device(void) {
+static bool open_uhid(void) {
     device = open("/dev/uhid", O_RDWR | O_CLOEXEC);
     if (device < 0) {
-        const char *help =
-            errno == ENOENT ? "load the kernel's module: modprobe uhid" : "run it as root, or pass a descriptor with --fd";
-        print_system_error("/dev/uhid");
-        fprintf(stderr, "hidlog-uhid: %s\n", help);
+        const char *advice = errno == ENOENT ? "load the kernel's module uhid: modprobe uhid"
+                                             : "run hidlog-uhid as root, or pass an open descriptor with --fd";
+        print_system_error("cannot open /dev/uhid");
+        fprintf(stderr, "hidlog-uhid: %s\n", advice);
     }
     return device >= 0;
 }
 
-static bool plug_in(void) {
+static bool create_device(void) {
     struct uhid_event event = {.type = UHID_CREATE2};
-    if (device < 0 && !open_device()) {
+    if (device < 0 && !open_uhid()) {
         return false;
     }
     strcpy((char *)event.u.create2.name, "hidlog software security key");
@@ -333,44 +337,44 @@ static bool plug_in(void) {
     event.u.create2.bus = BUS_USB;
     event.u.create2.vendor = 0x1209; // pid.codes, product 1: for tests
     event.u.create2.product = 1;
-    return write(device, &event, sizeof event) == sizeof event || print_system_error("cannot create the device");
+    return write(device, &event, sizeof event) == sizeof event || print_system_error("cannot create the HID device");
 }
 
-// Returns whether a recording may be written to a path, which must not be the state file.
+// Returns whether a recording may be written to a path: not if the path is that of the state file, or of a link to it.
 static bool is_recording_path_allowed(const char *path) {
-    struct stat one, other;
-    bool is_there = stat(path, &one) == 0;
+    struct stat recorded, saved;
+    bool is_there = stat(path, &recorded) == 0;
     if (!is_there && errno != ENOENT) {
         return print_system_error(path);
     }
-    bool has_state = stat(state.path, &other) == 0;
+    bool has_state = stat(state.path, &saved) == 0;
     if (!has_state && errno != ENOENT) {
         return print_system_error(state.path);
     }
-    bool is_one = is_there && has_state && one.st_dev == other.st_dev && one.st_ino == other.st_ino;
-    if (is_one || strcmp(path, state.path) == 0) {
+    bool is_same = is_there && has_state && recorded.st_dev == saved.st_dev && recorded.st_ino == saved.st_ino;
+    if (is_same || strcmp(path, state.path) == 0) {
         fprintf(stderr, "hidlog-uhid: %s: the recording would overwrite the state file; choose another path\n", path);
         return false;
     }
     return true;
 }
 
-// Formats the path of a recording's initial snapshot.
-static bool format_snapshot_path(const char *recorded, char path[PATH]) {
-    if (snprintf(path, PATH, "%s.snapshot", recorded) >= PATH) {
+// Writes the path of a recording's initial snapshot to `path`. Returns false if it is too long.
+static bool format_snapshot_path(const char *recording_path, char path[PATH]) {
+    if (snprintf(path, PATH, "%s.snapshot", recording_path) >= PATH) {
         errno = ENAMETOOLONG;
-        return print_system_error(recorded);
+        return print_system_error(recording_path);
     }
     return true;
 }
 
-// Replaces the contents of an open file.
+// Replaces the contents of the open file `file`. `path` is for the error message.
 static bool overwrite_file(const char *path, int file, const uint8_t *bytes, size_t len) {
     return (ftruncate(file, 0) == 0 && write_all(file, bytes, len)) || print_system_error(path);
 }
 
-// Opens the recording and its initial snapshot, if any, and overwrites them. Neither is truncated unless both can be
-// opened.
+// Opens and empties the recording's log, and writes the snapshot of the credentials at its start, if any, to another
+// file. Changes neither file unless both can be opened.
 static bool open_recording(const char *path, const uint8_t *snapshot, size_t len) {
     char snapshot_path[PATH];
     if (!format_snapshot_path(path, snapshot_path) || !is_recording_path_allowed(path) ||
@@ -390,8 +394,8 @@ static bool open_recording(const char *path, const uint8_t *snapshot, size_t len
     return is_written;
 }
 
-// Initializes the key again with an AAGUID of zeros, as `hidlog check` expects, and starts the recording, if a path is
-// given.
+// Initializes the key again, with an AAGUID of zeros, which `hidlog check` expects. Then starts the recording, unless
+// `path` is NULL.
 static bool start_recording(const char *path) {
     static const uint8_t aaguid[16];
     static uint8_t snapshot[HIDLOG_SNAPSHOT_MAX_LEN];
@@ -399,40 +403,40 @@ static bool start_recording(const char *path) {
     hidlog_key_destroy(&state.vkey.key);
     int error = hidlog_key_init(&state.vkey.key, aaguid, 0, snapshot, len);
     if (error != 0) {
-        fprintf(stderr, "hidlog-uhid: cannot initialize the key with the state file's credentials: error %d\n", error);
+        fprintf(stderr, "hidlog-uhid: cannot initialize the key again: hidlog_key_init returned error %d\n", error);
         return false;
     }
     return path == NULL || open_recording(path, snapshot, len);
 }
 
-// Blocks the signals that end the bridge, and returns a descriptor that becomes readable when one of them arrives.
+// Blocks the signals that end this program, and returns a descriptor that becomes readable when one of them arrives.
 // Returns -1 on failure.
 static int open_signal_descriptor(void) {
-    sigset_t ends;
-    sigemptyset(&ends);
-    sigaddset(&ends, SIGTERM);
-    sigaddset(&ends, SIGINT);
-    sigaddset(&ends, SIGHUP);
-    if (sigprocmask(SIG_BLOCK, &ends, NULL) != 0) {
+    sigset_t ending;
+    sigemptyset(&ending);
+    sigaddset(&ending, SIGTERM);
+    sigaddset(&ending, SIGINT);
+    sigaddset(&ending, SIGHUP);
+    if (sigprocmask(SIG_BLOCK, &ending, NULL) != 0) {
         return -1;
     }
-    // With these signals ignored, a write over the file size limit or to a closed pipe returns an error.
+    // Ignore the signals for a write over the file size limit or to a closed pipe, so that the write returns an error.
     signal(SIGXFSZ, SIG_IGN);
     signal(SIGPIPE, SIG_IGN);
-    return signalfd(-1, &ends, SFD_CLOEXEC);
+    return signalfd(-1, &ending, SFD_CLOEXEC);
 }
 
-// Creates the device, serves requests until a signal arrives, and saves the key, even if it is new. Saves nothing after
-// an error, since no response to the unsaved changes has been sent.
+// Creates the device, handles requests until a signal arrives, and saves the key's state, even if it has not changed.
+// After an error, saves nothing: no program has got a response that depends on unsaved changes.
 static bool run_session(void) {
     int signals = open_signal_descriptor();
     if (signals < 0) {
         return print_system_error("cannot wait for signals");
     }
-    if (!start_recording(options.recorded) || !plug_in()) {
+    if (!start_recording(options.recorded) || !create_device()) {
         return false;
     }
-    return run(signals) && save_state();
+    return handle_requests(signals) && save_state();
 }
 
 int main(int count, char **words) {
