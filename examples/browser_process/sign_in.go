@@ -1,4 +1,5 @@
-// Tests a Go service that uses duo-labs/webauthn, with a `hidlog browser` process as the browser.
+// Registers and signs in with a `hidlog browser` process, and verifies the responses with duo-labs/webauthn, as a Go
+// service would.
 //
 //	go run sign_in.go hidlog browser
 package main
@@ -35,7 +36,7 @@ type browser struct {
 	results  *bufio.Reader
 }
 
-// call sends a command and returns its result.
+// call sends a command to the process, and returns the command's result.
 func (b browser) call(command string, argument any) (r result) {
 	if err := b.commands.Encode(object{command: argument}); err != nil {
 		log.Fatal(err)
@@ -50,7 +51,7 @@ func (b browser) call(command string, argument any) (r result) {
 	return r
 }
 
-// startBrowser starts the command, and returns the browser and a function that ends it.
+// startBrowser starts the process with this command, and returns it and a function that ends it.
 func startBrowser(command ...string) (browser, func()) {
 	process := exec.Command(command[0], append(command[1:], "--origin", origin)...)
 	in, _ := process.StdinPipe()
@@ -89,7 +90,7 @@ func main() {
 	}
 	browser.call("setPresence", "denied")
 	if denied := browser.call("get", options); denied.Error != "NotAllowedError" {
-		log.Fatal("after a denied touch: expected NotAllowedError, got ", denied)
+		log.Fatal("expected NotAllowedError, since the user denied presence, got ", denied)
 	}
 	fmt.Println("ok")
 }

@@ -2,7 +2,8 @@
 
 #include <string.h>
 
-// libfido2 writes 65 bytes: the report ID, 0, and the 64 bytes of a packet.
+// Size of the HID report that libfido2 writes for a packet: the report ID (one byte, 0), and the 64 bytes of the
+// packet.
 enum { REPORT = 65 };
 
 static struct virtual_key *current_key;
@@ -20,8 +21,8 @@ static int write_packet(void *handle, const unsigned char *report, size_t len) {
     return len == REPORT && virtual_key_write(handle, report + 1) ? (int)len : -1;
 }
 
-// Reads a packet. Instead of waiting, provides what the key needs. Fails, as on a timeout, if no packet is queued and
-// the key needs nothing.
+// Reads a packet of the key. If none is queued, provides what the key needs until one is. If the key needs nothing,
+// fails as if the time limit `ms` had passed.
 static int read_packet(void *handle, unsigned char *packet, size_t len, int ms) {
     (void)ms;
     if (len < 64) {

@@ -1,4 +1,5 @@
-/* Initializes a key, sends INIT on the broadcast channel (CTAP 2.1, section 11.2.9.1.3) and prints the response.
+/* Initializes a key with the C library, sends INIT on the broadcast channel (CTAP 2.1, section 11.2.9.1.3) and prints
+ * the response. To run it:
  *
  *     gcc -std=c11 -I release -o init examples/c/init.c release/libhidlog.a && ./init */
 #include "hidlog.h"
@@ -15,7 +16,7 @@ int main(void) {
     if (key.memory == NULL || hidlog_key_init(&key, aaguid, 0, aaguid, 0) != 0 ||
         hidlog_key_write_packet(&key, 0, packet) != 1 || hidlog_key_read_packet(&key, packet) != 0 ||
         hidlog_key_destroy(&key) != 0) {
-        fputs("init: out of memory, or a function of the library failed\n", stderr);
+        fputs("init: out of memory, or a function of libhidlog returned another value than expected\n", stderr);
         return 1;
     }
     free(key.memory);

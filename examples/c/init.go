@@ -1,4 +1,5 @@
-// Initializes a key, sends INIT on the broadcast channel (CTAP 2.1, section 11.2.9.1.3) and prints the response. From Go:
+// Initializes a key with the C library, sends INIT on the broadcast channel (CTAP 2.1, section 11.2.9.1.3) and prints
+// the response. To run it:
 //
 //	CGO_CFLAGS=-I$PWD/release CGO_LDFLAGS=$PWD/release/libhidlog.a go run examples/c/init.go
 package main
@@ -13,16 +14,16 @@ import (
 	"os"
 )
 
-// expect exits with an error if a call returned a value other than the expected one.
-func expect(found C.int32_t, expected C.int32_t, what string) {
+// expect exits with an error message if the C function with this name returned another value than the expected one.
+func expect(found C.int32_t, expected C.int32_t, function string) {
 	if found != expected {
-		fmt.Fprintf(os.Stderr, "init: %s returned %d, expected %d\n", what, found, expected)
+		fmt.Fprintf(os.Stderr, "init: %s returned %d, expected %d\n", function, found, expected)
 		os.Exit(1)
 	}
 }
 
 func main() {
-	// The struct is allocated with C.calloc, since it must not move while the key is initialized.
+	// The struct is in C's memory, since it must not move while the key is initialized.
 	key := (*C.struct_hidlog_key)(C.calloc(1, C.sizeof_struct_hidlog_key))
 	key.memory = C.aligned_alloc(16, (C.hidlog_key_size()+15)/16*16)
 	var aaguid [16]C.uint8_t

@@ -1,10 +1,10 @@
-//! Initializes a key, sends INIT on the broadcast channel (CTAP 2.1, section 11.2.9.1.3) and prints the response. From
-//! Rust:
+//! Initializes a key with the C library, sends INIT on the broadcast channel (CTAP 2.1, section 11.2.9.1.3) and prints
+//! the response. To compile it:
 //!
 //!     rustc --edition 2021 -C link-arg=release/libhidlog.a -o init examples/c/init.rs
 use std::ffi::c_void;
 
-/// Part of the key's memory, which must be aligned to 16 bytes.
+/// 16 bytes of the key's memory, which must be aligned to 16 bytes.
 #[repr(align(16))]
 #[derive(Clone, Copy)]
 struct AlignedBlock(#[allow(dead_code)] [u8; 16]);
@@ -31,7 +31,7 @@ fn main() {
     let aaguid = [0u8; 16];
     let mut packet = [0u8; 64];
     packet[..15].copy_from_slice(&[0xff, 0xff, 0xff, 0xff, 0x86, 0, 8, 1, 2, 3, 4, 5, 6, 7, 8]);
-    // SAFETY: no pointer is null; the key is initialized before use and destroyed before its memory is freed.
+    // SAFETY: no pointer is null, and the key is initialized before its use and destroyed before its memory is freed.
     unsafe {
         assert_eq!(hidlog_key_init(&mut *key, aaguid.as_ptr(), 0, aaguid.as_ptr(), 0), 0);
         assert_eq!(hidlog_key_write_packet(&mut *key, 0, packet.as_ptr()), 1);

@@ -12,20 +12,20 @@
 
 enum { PATH = 4096 };
 
-static bool print_error(const char *path, const char *why) {
-    fprintf(stderr, "hidlog: %s: %s\n", path, why);
+static bool print_error(const char *path, const char *error) {
+    fprintf(stderr, "hidlog: %s: %s\n", path, error);
     return false;
 }
 
-// Prints which action on a file failed, and the system error.
+// Prints what failed for the file with this path, and why, by errno. Returns false.
 static bool print_system_error(const char *path, const char *failure) {
     fprintf(stderr, "hidlog: %s: %s: %s\n", path, failure, strerror(errno));
     return false;
 }
 
-// Writes the path followed by a suffix to `made`.
-static bool append_suffix(const char *path, const char *suffix, char made[PATH]) {
-    return snprintf(made, PATH, "%s%s", path, suffix) < PATH || print_error(path, "the path is too long");
+// Writes the path followed by a suffix to `suffixed`. Returns false if that is too long.
+static bool append_suffix(const char *path, const char *suffix, char suffixed[PATH]) {
+    return snprintf(suffixed, PATH, "%s%s", path, suffix) < PATH || print_error(path, "the path is too long");
 }
 
 static int lock_file(int file, int how) {
@@ -59,28 +59,29 @@ int private_file_lock(const char *path) {
     return file;
 }
 
-// Returns whether an open file is private, by OpenSSH's rules for private keys. `contents` describes the file in the
-// error.
+// Stores facts about an open file, and returns whether it is private by OpenSSH's rule for private keys: a regular file
+// that only its owner may access. `contents` says in the error message what the file contains.
 static bool is_private(const char *path, int file, const char *contents, struct stat *facts) {
     if (fstat(file, facts) != 0) {
         return print_system_error(path, "cannot get the file's mode and size");
     }
     if (!S_ISREG(facts->st_mode)) {
-        return print_error(path, "not a regular file");
+        return print_error(path, "not a regular file, but a directory, pipe or device");
     }
     if ((facts->st_mode & 077) != 0) {
-        fprintf(stderr, "hidlog: %s: permissions %04o are too open for a file with %s: run chmod 600\n", path,
-                (unsigned)facts->st_mode & 07777, contents);
+        fprintf(stderr,
+                "hidlog: %s: other users can access this file with %s: its permissions are %04o; run chmod 600\n", path,
+                contents, (unsigned)facts->st_mode & 07777);
         return false;
     }
     return true;
 }
 
-// Returns whether an open file is private and has at most `max_len` bytes.
+// Returns whether an open file may be read: it is private, and has at most `max_len` bytes.
 static bool is_readable(const char *path, int file, size_t max_len) {
     struct stat facts;
     return is_private(path, file, "private keys", &facts) &&
-           ((uint64_t)facts.st_size <= max_len || print_error(path, "the file is too large"));
+           ((uint64_t)facts.st_size <= max_len || print_error(path, "the file is too large for a state file"));
 }
 
 // Returns whether an open file may be overwritten: it is private, belongs to this user, and has no other hard link.
@@ -93,7 +94,7 @@ static bool is_overwritable(const char *path, int file) {
         return print_error(path, "the file belongs to another user; remove it or choose another path");
     }
     if (facts.st_nlink != 1) {
-        return print_error(path, "the file has another hard link; remove this file or choose another path");
+        return print_error(path, "the file has other names (hard links); remove this one or choose another path");
     }
     return true;
 }
@@ -119,7 +120,7 @@ static long read_all(int file, uint8_t *bytes, size_t max_len) {
 }
 
 long private_file_read(const char *path, uint8_t *bytes, size_t max_len) {
-    // Without O_NONBLOCK, opening a named pipe would wait for a writer.
+    // O_NONBLOCK: if the path is a named pipe, don't wait for a program that writes to it.
     int file = open(path, O_RDONLY | O_NOFOLLOW | O_NONBLOCK | O_CLOEXEC);
     if (file < 0 && errno == ENOENT) {
         return PRIVATE_FILE_NONE;
@@ -166,27 +167,28 @@ bool write_all(int file, const uint8_t *bytes, size_t len) {
     return true;
 }
 
-// Creates a file, writes its contents to disk, and does not follow links. On failure removes the file and sets errno.
+// Creates a file, and writes its contents to disk. Fails if the path exists, even as a link. On failure, removes the
+// file and sets errno.
 static bool write_new_file(const char *path, const uint8_t *bytes, size_t len) {
     int file = open(path, O_WRONLY | O_CREAT | O_EXCL | O_NOFOLLOW | O_CLOEXEC, 0600);
     if (file < 0) {
         return false;
     }
     bool is_written = write_all(file, bytes, len) && fsync(file) == 0;
-    int why = errno;
+    int error = errno;
     if (close(file) != 0 && is_written) {
         is_written = false;
-        why = errno;
+        error = errno;
     }
     if (!is_written) {
         unlink(path);
-        errno = why;
+        errno = error;
     }
     return is_written;
 }
 
-// Opens the directory that contains a file.
-static int open_directory(const char *path) {
+// Opens the directory that contains the file with this path. Returns its descriptor, or -1 on failure.
+static int open_parent_directory(const char *path) {
     char folder[PATH];
     const char *name = strrchr(path, '/');
     size_t len = name == NULL ? 0 : name == path ? 1 : (size_t)(name - path);
@@ -199,31 +201,32 @@ static int open_directory(const char *path) {
     return open(len == 0 ? "." : folder, O_RDONLY | O_DIRECTORY | O_CLOEXEC);
 }
 
-// Renames the new file to `path`, and syncs the directory so that the new name is on disk.
-static bool rename_and_sync(const char *path, const char *written, int folder) {
-    if (rename(written, path) != 0) {
-        int why = errno;
-        unlink(written);
-        errno = why;
+// Renames the file `new_path` to `path`, and syncs the directory `folder`, so that the new name is on disk.
+static bool rename_and_sync(const char *new_path, const char *path, int folder) {
+    if (rename(new_path, path) != 0) {
+        int error = errno;
+        unlink(new_path);
+        errno = error;
         return print_system_error(path, "nothing was saved, and the file is unchanged");
     }
     // Some file systems cannot sync directories (EINVAL).
     return fsync(folder) == 0 || errno == EINVAL ||
-           print_system_error(path, "the new file is in place, but a power loss may restore the old one");
+           print_system_error(path, "the file was replaced, but a power loss may bring back its old contents");
 }
 
 bool private_file_replace(const char *path, const uint8_t *bytes, size_t len) {
-    char fresh[PATH];
-    if (!append_suffix(path, ".new", fresh)) {
+    char new_path[PATH];
+    if (!append_suffix(path, ".new", new_path)) {
         return false;
     }
-    int folder = open_directory(path);
-    // The caller has the lock, so an existing temporary file was left by a program that was killed.
-    bool is_written = folder >= 0 && (unlink(fresh) == 0 || errno == ENOENT) && write_new_file(fresh, bytes, len);
+    int folder = open_parent_directory(path);
+    // Remove a temporary file that a killed program has left. No other program uses it now, since the caller has the
+    // lock.
+    bool is_written = folder >= 0 && (unlink(new_path) == 0 || errno == ENOENT) && write_new_file(new_path, bytes, len);
     if (!is_written) {
         print_system_error(path, "nothing was saved, and the file is unchanged");
     }
-    bool is_done = is_written && rename_and_sync(path, fresh, folder);
+    bool is_done = is_written && rename_and_sync(new_path, path, folder);
     if (folder >= 0) {
         close(folder);
     }

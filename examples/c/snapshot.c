@@ -2,10 +2,11 @@
 
 #include <string.h>
 
-// Major types of CBOR (RFC 8949), shifted to the high three bits of an item's first byte, and the item `false`.
+// The first byte of a CBOR item (RFC 8949): its major type, in the high three bits, or the whole item `false`.
 enum { NUMBER = 0x00, BYTES = 0x40, TEXT = 0x60, ARRAY = 0x80, MAP = 0xa0, FALSE = 0xf4 };
 
-// Writes the head of an item in its shortest form, as canonical CBOR requires.
+// Writes the head of a CBOR item, its major type and its argument, in the shortest form, as canonical CBOR requires.
+// Returns a pointer to the byte after it.
 static uint8_t *write_head(uint8_t *to, unsigned major, uint32_t argument) {
     unsigned extra = argument < 24 ? 0 : argument < 0x100 ? 1 : argument < 0x10000 ? 2 : 4;
     *to++ = (uint8_t)(major | (extra == 0 ? argument : extra == 1 ? 24u : extra == 2 ? 25u : 26u));

@@ -8,6 +8,7 @@
 #include <openssl/rand.h>
 #include <string.h>
 
+// Returns a slot without a key pair, or NULL if all slots are used.
 static struct software_key *find_free_slot(struct software_keys *keys) {
     for (size_t i = 0; i < SOFTWARE_KEYS; i++) {
         if (keys->slots[i].pair == NULL) {
@@ -17,7 +18,8 @@ static struct software_key *find_free_slot(struct software_keys *keys) {
     return NULL;
 }
 
-static bool read_number(const EVP_PKEY *pair, const char *name, uint8_t number[32]) {
+// Reads the parameter of a key pair that has this name in libcrypto, as 32 bytes, big-endian.
+static bool read_parameter(const EVP_PKEY *pair, const char *name, uint8_t number[32]) {
     BIGNUM *found = NULL;
     bool is_read = EVP_PKEY_get_bn_param(pair, name, &found) == 1 && BN_bn2binpad(found, number, 32) == 32;
     BN_clear_free(found);
@@ -28,8 +30,9 @@ const struct software_key *software_keys_generate(struct software_keys *keys) {
     struct software_key *key = find_free_slot(keys);
     EVP_PKEY *pair = key == NULL ? NULL : EVP_EC_gen("P-256");
     if (pair == NULL || RAND_bytes(key->id, sizeof key->id) != 1 ||
-        !read_number(pair, OSSL_PKEY_PARAM_EC_PUB_X, key->x) || !read_number(pair, OSSL_PKEY_PARAM_EC_PUB_Y, key->y) ||
-        !read_number(pair, OSSL_PKEY_PARAM_PRIV_KEY, key->secret)) {
+        !read_parameter(pair, OSSL_PKEY_PARAM_EC_PUB_X, key->x) ||
+        !read_parameter(pair, OSSL_PKEY_PARAM_EC_PUB_Y, key->y) ||
+        !read_parameter(pair, OSSL_PKEY_PARAM_PRIV_KEY, key->secret)) {
         EVP_PKEY_free(pair);
         return NULL;
     }
@@ -37,7 +40,7 @@ const struct software_key *software_keys_generate(struct software_keys *keys) {
     return key;
 }
 
-// Returns the parameters for EVP_PKEY_fromdata.
+// Returns the curve, the public key and the private key as parameters for EVP_PKEY_fromdata, or NULL on failure.
 static OSSL_PARAM *make_parameters(const struct software_key *key, BIGNUM *secret) {
     uint8_t point[65] = {POINT_CONVERSION_UNCOMPRESSED};
     OSSL_PARAM_BLD *builder = OSSL_PARAM_BLD_new();
@@ -54,12 +57,12 @@ static OSSL_PARAM *make_parameters(const struct software_key *key, BIGNUM *secre
     return parameters;
 }
 
-// Returns whether the private key matches the public key.
+// Returns whether the private key of a pair matches its public key.
 static bool is_matching_pair(EVP_PKEY *pair) {
     EVP_PKEY_CTX *context = EVP_PKEY_CTX_new_from_pkey(NULL, pair, NULL);
-    bool is_one = context != NULL && EVP_PKEY_pairwise_check(context) == 1;
+    bool is_matching = context != NULL && EVP_PKEY_pairwise_check(context) == 1;
     EVP_PKEY_CTX_free(context);
-    return is_one;
+    return is_matching;
 }
 
 bool software_keys_add(struct software_keys *keys, const struct software_key *key) {

@@ -16,7 +16,7 @@ static uint64_t now_ms(const struct virtual_key *vkey) {
 }
 
 bool virtual_key_open(struct virtual_key *vkey, const uint8_t *snapshot, size_t snapshot_len) {
-    // The AAGUID, which identifies this authenticator model: "hidlog-software!".
+    // The AAGUID identifies the authenticator's model. This one is the text "hidlog-software!".
     static const uint8_t aaguid[16] = {'h', 'i', 'd', 'l', 'o', 'g', '-', 's', 'o', 'f', 't', 'w', 'a', 'r', 'e', '!'};
     memset(vkey, 0, sizeof *vkey);
     vkey->powered_up = clock_ms();
@@ -34,8 +34,9 @@ void virtual_key_close(struct virtual_key *vkey) {
     software_keys_free(&vkey->keys);
 }
 
-// Moves the packets that the key has queued to the client's queue, since the key accepts no input while packets are
-// queued. `queued` is the return value of the last input: the number of packets, or a negative error.
+// Moves the packets that the key has queued to the queue in *vkey, since the key accepts no input while it has queued
+// packets. `queued` is what the last input function returned: the number of queued packets, or a negative error code;
+// then returns false.
 static bool queue_packets(struct virtual_key *vkey, int32_t queued) {
     if (queued < 0) {
         return false;

@@ -1,12 +1,13 @@
-// An in-memory security key with a clock, a simulated user and private keys. A client writes and reads packets, as with
-// a USB device.
+// An in-memory security key with a clock, a simulated user and private keys. A program writes packets to it and reads
+// packets from it, as it would with a USB key.
 #ifndef VIRTUAL_KEY_H
 #define VIRTUAL_KEY_H
 
 #include "hidlog.h"
 #include "software_keys.h"
 
-// One input causes at most 130 packets. If the client does not read, the oldest packets are lost, as with a USB device.
+// Capacity of the queue of packets for the program. One input adds at most 130 packets. If the queue is full, the
+// oldest packets are lost, as with a USB device.
 enum { VIRTUAL_KEY_PACKETS = 512 };
 
 struct virtual_key {
@@ -19,20 +20,22 @@ struct virtual_key {
     size_t count;
 };
 
-// Powers up a key with the credentials of a snapshot (length 0 for none). The caller adds their private keys.
+// Powers up a key with the credentials of a snapshot (length 0 for none). Returns false on failure. The caller must
+// then add the credentials' private keys to `keys`.
 bool virtual_key_open(struct virtual_key *vkey, const uint8_t *snapshot, size_t snapshot_len);
 void virtual_key_close(struct virtual_key *vkey);
 
-// Writes a packet from the client.
+// Passes a packet of the program to the key. Returns false if the key rejects it.
 bool virtual_key_write(struct virtual_key *vkey, const uint8_t packet[64]);
 
-// Reads the oldest packet from the key. Returns false if there is none.
+// Removes the oldest packet from the queue and copies it to `packet`. Returns false if the queue is empty.
 bool virtual_key_read(struct virtual_key *vkey, uint8_t packet[64]);
 
-// Advances the time, so that the key sends a KEEPALIVE if one is due.
+// Tells the key the current time, so that it sends a KEEPALIVE if one is due. Returns false on an error.
 bool virtual_key_tick(struct virtual_key *vkey);
 
-// Provides what the key needs now. Returns false if the key needs nothing, or on an error.
+// Provides what the key needs now: user presence, a key pair or a signature. Returns false if it needs nothing, or on
+// an error.
 bool virtual_key_provide_need(struct virtual_key *vkey);
 
 // Returns what the key needs: an enum hidlog_need_kind.

@@ -1,8 +1,9 @@
 #!/usr/bin/env bash
-# Installs the package hidlog into a new virtual environment, as the README does, and runs the example and its tests.
-# Then checks the recorded logs in examples/ with hidlog.
+# Tests the examples of the Python package: installs the package hidlog into a new virtual environment, as the README
+# does, and runs the example first.py and the tests in this folder. Then checks the recorded logs in examples/ with
+# hidlog.
 #
-#     examples/python/run.sh [DIR]        save the recordings of failed tests in DIR [default: nowhere]
+#     examples/python/run.sh [DIR]        saves the recordings of failed tests in DIR [default: doesn't save them]
 #
 # Needs the Debian packages python3-fido2, python3-cryptography and python3-pytest. Exits with 3 if they are missing.
 # HIDLOG_PROGRAM is the path of the program [default: ./hidlog].
@@ -12,7 +13,7 @@ HIDLOG_PROGRAM=$(realpath "${HIDLOG_PROGRAM:-$here/../../hidlog}")
 export HIDLOG_PROGRAM PYTHONDONTWRITEBYTECODE=1
 python=/usr/bin/python3
 if ! "$python" -c 'import cryptography, pytest, venv, fido2; assert fido2.__version__.startswith("0.9")' 2>/dev/null; then
-    echo "examples/python/run.sh: python-fido2 0.9, cryptography, pytest or venv is missing (tests/run --install); nothing was run" >&2
+    echo "examples/python/run.sh: python-fido2 0.9, cryptography, pytest or venv is missing (tests/run --install installs them); nothing was run" >&2
     exit 3
 fi
 work=$(mktemp -d)
@@ -27,7 +28,7 @@ if [ $# -gt 0 ]; then
 fi
 env -u HIDLOG_PROGRAM "$work/venv/bin/python" -m pytest -q -p no:cacheprovider "${keep[@]}" "$here"
 
-# Each recorded log must pass `hidlog check`, and equal the output of `hidlog replay` and `hidlog live`.
+# Check that each recorded log passes `hidlog check`, and that `hidlog replay` and `hidlog live` write it unchanged.
 for log in "$here"/../service_*.log; do
     load=()
     if [ "${log##*/}" = service_after_restart.log ]; then
