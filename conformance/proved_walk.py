@@ -16,6 +16,6 @@ def walk(log: bytes) -> bytes:
     return bytes(logs.transactions(log).raise_for_fault().text)
 
 
-def judge(log: bytes) -> judged_log.Recording:
+def judge(log: bytes) -> judged_log.JudgedRecording:
     """Checks a log."""
     return judged_log.judge(log, walk)

@@ -4,7 +4,7 @@
     conformance/check.py clients --pin    PINs, sign-ins, credential management, large blobs and built-in user
                                           verification with the reference authenticator
 
-SHOULD violations count as failures here.
+SHOULD violations count as failures here. Exits with 3 if python-fido2 0.9 is missing.
 """
 
 from __future__ import annotations
@@ -17,6 +17,7 @@ import tempfile
 import time
 from typing import Dict, List, Tuple
 
+import fido2
 from hidlog_conformance.client_runner import client_sessions, play_clients
 from hidlog_conformance.paths import CLIENTS
 from hidlog_conformance.reference.authenticator import Authenticator
@@ -120,4 +121,7 @@ def check_pins() -> bool:
 
 def main(arguments: List[str]) -> int:
     """Checks both clients."""
+    if not getattr(fido2, "__version__", "").startswith("0.9"):  # newer versions have another interface
+        print("conformance/check.py clients: python-fido2 0.9 (Debian 12's version) is missing; nothing was run")
+        return 3
     return 0 if (check_pins() if "--pin" in arguments else check_sessions()) else 1

@@ -1,4 +1,4 @@
-"""Faulty authenticators: filters between the runner and hidlog live, each with one fault."""
+"""Faulty authenticators: each is a filter between the test runner and `hidlog live` that injects one fault."""
 
 from __future__ import annotations
 

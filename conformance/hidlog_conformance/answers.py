@@ -327,7 +327,9 @@ def check_user_entity(item: Dict[Any, Any], words: List[str], facts: DeviceFacts
         check(4 not in item, "no user", item)
     if "no-name" in words:
         check(
-            not {"name", "displayName", "icon"} & set(item.get(4, {})), "no user name without user verification", item
+            not {"name", "displayName", "icon"} & set(item.get(4, {})),
+            "no name, displayName or icon of the user, who was not verified",
+            item,
         )
     if "name" in words:
         name = words[words.index("name") + 1]

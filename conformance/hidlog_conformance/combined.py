@@ -1,4 +1,5 @@
-"""Saves touches: plays several cases as one, and each alone only if that does not pass.
+"""Plays several cases as one, so that a person touches the device less often. Each is played alone only if the combined
+case fails.
 
 Two kinds of cases can be combined. Registrations whose requests differ from a plain one in different members become one
 request with all these members. Cases that send packets while a registration is pending become one case with one pending

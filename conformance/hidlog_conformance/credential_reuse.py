@@ -1,4 +1,4 @@
-"""Saves touches: cases that need any credential reuse one that another case registered."""
+"""Lets cases that need any credential reuse one of another case, so that a person touches the device less often."""
 
 from __future__ import annotations
 

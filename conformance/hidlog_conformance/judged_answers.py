@@ -7,7 +7,7 @@ from typing import Any, Dict, List, Optional, Set, Tuple
 from hidlog_conformance import answers, ctap_cbor, rules
 from hidlog_conformance import hid_packets as hid
 from hidlog_conformance.answers import GET, INFO, MAKE, NEXT, RESET, UP, UV, Credential, Mismatch, DeviceFacts, check
-from hidlog_conformance.judged_log import KEY, MUST, SHOULD, Recording, make_difference
+from hidlog_conformance.judged_log import KEY, MUST, SHOULD, JudgedRecording, make_difference
 from hidlog_conformance.judged_parts import (
     OTHERWISE,
     ExtensionMismatch,
@@ -51,7 +51,7 @@ def describe_error(fault: Exception) -> str:
 class AnswerJudge:
     """Checks responses to CBOR requests, in order."""
 
-    def __init__(self, recording: Recording) -> None:
+    def __init__(self, recording: JudgedRecording) -> None:
         self.recording = recording
         # CTAP 2.0 applies until getInfo has the version FIDO_2_1.
         self.facts = DeviceFacts(old=True)

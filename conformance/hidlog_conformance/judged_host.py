@@ -6,7 +6,7 @@ from typing import Dict, Optional, Set
 
 from hidlog_conformance import hid_packets as hid
 from hidlog_conformance import rules
-from hidlog_conformance.judged_log import HOST, MUST, SHOULD, Recording, find_section
+from hidlog_conformance.judged_log import HOST, MUST, SHOULD, JudgedRecording, find_section
 from hidlog_conformance.text import quantity
 from hidlog_conformance.requests import find_fault
 from hidlog_conformance.transactions import Entry, Transaction
@@ -29,7 +29,7 @@ VENDOR = range(0x40, 0x80)
 class HostJudge:
     """Checks each packet of hosts."""
 
-    def __init__(self, recording: Recording) -> None:
+    def __init__(self, recording: JudgedRecording) -> None:
         self.recording = recording
         # By channel: the last message, the message in progress, and the last refused message.
         self.begun: Dict[bytes, Transaction] = {}

@@ -9,7 +9,7 @@ from hidlog_conformance import rules
 from hidlog_conformance.answers import CAPABILITY_CBOR, Mismatch, check_init_response, is_valid_keepalive
 from hidlog_conformance.judged_answers import AnswerJudge
 from hidlog_conformance.judged_errors import SERVED, ErrorJudge
-from hidlog_conformance.judged_log import KEY, MUST, SHOULD, SILENCE_MS, Recording, make_difference, to_message
+from hidlog_conformance.judged_log import KEY, MUST, SHOULD, SILENCE_MS, JudgedRecording, make_difference, to_message
 from hidlog_conformance.judged_missing import MESSAGE_TIMEOUT_MS, MissingJudge
 from hidlog_conformance.judged_parts import ExtensionMismatch
 from hidlog_conformance.text import quantity
@@ -27,7 +27,7 @@ ZEROS = bytes(64)
 class KeyJudge:
     """Checks the key's packets, and its missing responses."""
 
-    def __init__(self, recording: Recording) -> None:
+    def __init__(self, recording: JudgedRecording) -> None:
         self.recording = recording
         self.answers = AnswerJudge(recording)
         self.errors = ErrorJudge(self)

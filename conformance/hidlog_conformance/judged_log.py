@@ -68,8 +68,8 @@ class Finding:
         return (self.section, self.also) if self.also else (self.section,)
 
 
-class Recording:
-    """The state of checking a log line by line, and the findings so far."""
+class JudgedRecording:
+    """A log that is being checked line by line: its state, and the findings so far."""
 
     def __init__(self) -> None:
         self.walk = Transactions()
@@ -244,7 +244,7 @@ def pad_line(line: bytes) -> bytes:
     return b"> " + found[2] + b" " + digits if found[1] == b">" else b"< " + digits
 
 
-def judge(log: bytes, walk: Callable[[bytes], bytes]) -> Recording:
+def judge(log: bytes, walk: Callable[[bytes], bytes]) -> JudgedRecording:
     """Checks a log. `walk` returns the output of `hidlog_transactions`, and raises an exception at an invalid line."""
     return judge_parts([log], walk)
 
@@ -253,7 +253,7 @@ def judge_parts(
     parts: Iterable[bytes],
     walk: Callable[[bytes], bytes],
     prepare: Optional[Callable[[List[Entry]], None]] = None,
-) -> Recording:
+) -> JudgedRecording:
     """Checks a log in parts, between which no transaction is open. `prepare` is called with packets some time before
     they are checked."""
     judged = LogJudge(prepare)
@@ -270,7 +270,7 @@ class LogJudge:
         from hidlog_conformance.judged_host import HostJudge
         from hidlog_conformance.judged_key import KeyJudge
 
-        self.recording = Recording()
+        self.recording = JudgedRecording()
         self.host, self.key = HostJudge(self.recording), KeyJudge(self.recording)
         self.prepare = prepare
         # Packets that are checked after the next ones are passed to `prepare`.
@@ -310,7 +310,7 @@ class LogJudge:
         check_entries(self.recording.walk.take_settled(), self.host, self.key)
         self.waiting = []
 
-    def finish(self) -> Recording:
+    def finish(self) -> JudgedRecording:
         """Checks the remaining packets, and returns the recording with its findings in order."""
         check_entries(self.waiting, self.host, self.key)
         check_entries(self.recording.walk.take_entries(), self.host, self.key)

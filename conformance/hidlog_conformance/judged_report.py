@@ -6,7 +6,7 @@ import json
 from typing import Callable, Dict, List, Tuple
 from xml.sax.saxutils import escape, quoteattr
 
-from hidlog_conformance.judged_log import KEY, MUST, SHOULD, Finding, Recording
+from hidlog_conformance.judged_log import KEY, MUST, SHOULD, Finding, JudgedRecording
 from hidlog_conformance.keys import AVAILABLE
 from hidlog_conformance.text import escape_text, quantity
 
@@ -16,12 +16,12 @@ OLD_NAMES = {"relatedSections": "also", "expected": "due", "actual": "came"}
 SIDES = {KEY: "the key", "host": "the host"}
 
 
-def count_packets(recording: Recording) -> int:
+def count_packets(recording: JudgedRecording) -> int:
     """Returns the number of packets."""
     return recording.walk.packets
 
 
-def format_total(recording: Recording) -> str:
+def format_total(recording: JudgedRecording) -> str:
     """Returns the last line: the number of packets, transactions and violations."""
     counts = {level: sum(finding.level == level for finding in recording.findings) for level in (MUST, SHOULD)}
     packets = count_packets(recording)
@@ -29,7 +29,7 @@ def format_total(recording: Recording) -> str:
     return f"{quantity(packets, 'packet')}, {quantity(recording.walk.count, 'transaction')}: {violations}"
 
 
-def list_notes(recording: Recording) -> List[str]:
+def list_notes(recording: JudgedRecording) -> List[str]:
     """Returns notes on rules that were not checked, and on violations that the recorder may have caused."""
     notes = []
     if recording.has_lost:
@@ -64,14 +64,14 @@ def format_finding(finding: Finding) -> List[str]:
     ]
 
 
-def format_recording(recording: Recording) -> str:
+def format_recording(recording: JudgedRecording) -> str:
     """Returns the text about a recording: notes, findings, totals."""
     lines = [f"note: {note}" for note in list_notes(recording)]
     lines += [line for finding in recording.findings for line in format_finding(finding)]
     return "".join(f"{line}\n" for line in [*lines, format_total(recording)])
 
 
-def to_text(judged: List[Tuple[str, Recording]]) -> str:
+def to_text(judged: List[Tuple[str, JudgedRecording]]) -> str:
     """Returns the report as text; if there are several recordings, each begins with its name."""
     if len(judged) == 1:
         return format_recording(judged[0][1])
@@ -97,7 +97,7 @@ def add_old_names(members: Dict[str, object]) -> Dict[str, object]:
     return {**members, **{old: members[name] for name, old in OLD_NAMES.items()}}
 
 
-def to_recording_object(name: str, recording: Recording) -> Dict[str, object]:
+def to_recording_object(name: str, recording: JudgedRecording) -> Dict[str, object]:
     """Returns a recording's findings as a JSON object."""
     return {
         "format": FORMAT,
@@ -109,13 +109,13 @@ def to_recording_object(name: str, recording: Recording) -> Dict[str, object]:
     }
 
 
-def to_json(judged: List[Tuple[str, Recording]]) -> str:
+def to_json(judged: List[Tuple[str, JudgedRecording]]) -> str:
     """Returns JSON: one object, or an array if there are several recordings."""
     objects = [to_recording_object(name, recording) for name, recording in judged]
     return json.dumps(objects[0] if len(objects) == 1 else objects, indent=1) + "\n"
 
 
-def to_suite(name: str, recording: Recording) -> List[str]:
+def to_suite(name: str, recording: JudgedRecording) -> List[str]:
     """Returns a JUnit XML suite: a test case for each finding, or one that passes."""
     cases = []
     for finding in recording.findings:
@@ -133,7 +133,7 @@ def to_suite(name: str, recording: Recording) -> List[str]:
     return [head, *cases, "</testsuite>"]
 
 
-def to_junit(judged: List[Tuple[str, Recording]]) -> str:
+def to_junit(judged: List[Tuple[str, JudgedRecording]]) -> str:
     """Returns JUnit XML: a suite for each recording."""
     suites = [line for name, recording in judged for line in to_suite(name, recording)]
     if len(judged) > 1:
@@ -141,4 +141,8 @@ def to_junit(judged: List[Tuple[str, Recording]]) -> str:
     return "\n".join(['<?xml version="1.0" encoding="UTF-8"?>', *suites, ""])
 
 
-WRITERS: Dict[str, Callable[[List[Tuple[str, Recording]]], str]] = {"text": to_text, "json": to_json, "junit": to_junit}
+WRITERS: Dict[str, Callable[[List[Tuple[str, JudgedRecording]]], str]] = {
+    "text": to_text,
+    "json": to_json,
+    "junit": to_junit,
+}

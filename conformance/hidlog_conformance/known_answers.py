@@ -9,7 +9,7 @@ from hidlog_conformance import ctap_cbor, rules
 from hidlog_conformance import hid_packets as hid
 from hidlog_conformance.answers import GET, MAKE, MAX_RETRIES, RESET, UV, Mismatch, read_cose_key
 from hidlog_conformance.judged_answers import AnswerJudge
-from hidlog_conformance.judged_log import KEY, Recording
+from hidlog_conformance.judged_log import KEY, JudgedRecording
 from hidlog_conformance.judged_parts import (
     CHANGE_PIN,
     GET_AGREEMENT,
@@ -84,7 +84,7 @@ class Secrets:
 class KnownAnswers(AnswerJudge):
     """Checks responses to the only host that uses the device."""
 
-    def __init__(self, recording: Recording, platform: Platform) -> None:
+    def __init__(self, recording: JudgedRecording, platform: Platform) -> None:
         super().__init__(recording)
         self.platform = platform
         self.secrets = Secrets()

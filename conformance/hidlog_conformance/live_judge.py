@@ -11,7 +11,7 @@ from typing import Dict, List, Optional
 from hidlog_conformance import hid_packets as hid
 from hidlog_conformance.judged_host import HostJudge
 from hidlog_conformance.judged_key import KeyJudge
-from hidlog_conformance.judged_log import MUST, POWER_CYCLE, Finding, Recording, check_entries
+from hidlog_conformance.judged_log import MUST, POWER_CYCLE, Finding, JudgedRecording, check_entries
 from hidlog_conformance.known_answers import KnownAnswers
 from hidlog_conformance.platform_side import FilledValues, Platform
 from hidlog_conformance.transactions import BY_ERROR, Ending, OwnerRow, Owners
@@ -74,7 +74,7 @@ class LiveJudge:
     """Checks the lines of a session as they are written."""
 
     def __init__(self, platform: Platform) -> None:
-        self.recording = Recording()
+        self.recording = JudgedRecording()
         self.owners = SentOwners()
         self.host, self.key = HostJudge(self.recording), KeyJudge(self.recording)
         self.answers = KnownAnswers(self.recording, platform)

@@ -1,4 +1,4 @@
-"""Saves touches: tours (tours.py) of cases that reset a device, or need a device without other credentials."""
+"""Combined sessions (tours.py) for the cases that reset a device, or need a device without other credentials."""
 
 from __future__ import annotations
 

@@ -1,4 +1,4 @@
-"""Saves touches: sets the option up of sign-ins to false if the case is not about user presence."""
+"""Sets the option up of sign-ins to false in cases that are not about user presence, which saves touches."""
 
 from __future__ import annotations
 

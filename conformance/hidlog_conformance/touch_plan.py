@@ -1,4 +1,4 @@
-"""Saves touches when a person tests a device that keeps its state: cases share registrations, PINs and resets.
+"""Plans a run with few touches on a device that keeps its state: cases share registrations, PINs and resets.
 
 Each case still sends all requests that it tests. Cases can share their beginnings: the same registrations with the same
 expectations, in the same order, and the same PIN. The order of the cases depends on the state that each leaves on the

@@ -1,8 +1,8 @@
-"""Saves touches: tours, which are sessions written by hand that each replace several cases.
+"""Tours: sessions, written by hand, that each combine several cases, so that a person touches the device less often.
 
-A tour tests the same as its cases with fewer touches: a registration has the members of several requests, and the first
-steps that several cases have in common come once. A device that passes a tour passes each of its cases. If it fails,
-the cases are played by themselves. `check.py faults --kept` plays tours to faulty authenticators.
+A tour tests the same as its cases: a registration has the members of several requests, and steps that the cases have in
+common are played only once. A device that passes a tour passes each of its cases. If it fails, its cases are played one
+by one. `check.py faults --kept` plays tours to faulty authenticators.
 """
 
 from __future__ import annotations

@@ -103,7 +103,7 @@ def run_persistent_mutant(name: str) -> Tuple[bool, str]:
             play_all(device, sessions, options, device_info, results)
     except OSError as ended:
         return True, f"found   {text}\n        before the first case: {ended}"
-    except FoundError as found:
+    except MutantFoundError as found:
         return True, f"found   {text}\n        by {found}"
     if results.others:
         return True, f"found   {text}\n        under another section, by {quantity(len(results.others), 'case')}"
@@ -112,8 +112,8 @@ def run_persistent_mutant(name: str) -> Tuple[bool, str]:
     return bool(reason), f"{'listed' if reason else 'MISSED'}  {text}{more}"
 
 
-class FoundError(Exception):
-    """A case failed under the section of the fault."""
+class MutantFoundError(Exception):
+    """Raised when a case fails under the section that the mutant violates: the mutant is found."""
 
 
 class FirstFailure(Results[Outcome]):
@@ -127,7 +127,7 @@ class FirstFailure(Results[Outcome]):
     def add(self, number: int, result: Outcome) -> None:
         """Adds a result."""
         if result.status == "not ok" and result.broken == self.section:
-            raise FoundError(f"{result.session.name}: {result.expected}; actual: {result.actual}"[:200])
+            raise MutantFoundError(f"{result.session.name}: {result.expected}; actual: {result.actual}"[:200])
         if result.status == "not ok":
             self.others.append(result)
 

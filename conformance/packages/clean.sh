@@ -1,11 +1,13 @@
 #!/usr/bin/env bash
-# Installs the packages of the conformance tests in a clean Debian system, and runs them there as an unprivileged user
-# against the reference authenticator: all tests without a PIN, with a PIN, and with built-in user verification.
+# Installs the packages of the conformance tests, a deb and a wheel, in a clean Debian system, and runs all conformance
+# tests there as an unprivileged user, against the reference authenticator: without a PIN, with a PIN, and with built-in
+# user verification.
 #
 #     conformance/packages/clean.sh FOLDER
 #
-# FOLDER is created by debootstrap or reused. It has Debian's base system and nothing of this repository. Needs root,
-# debootstrap and network access. Exit status: 3 if a requirement is missing.
+# FOLDER is the root of the Debian system. If it does not exist, debootstrap installs Debian's base system there. It has
+# no file of this repository except the packages. Needs root, debootstrap and network access; exits with 3 if one of
+# these is missing.
 set -euo pipefail
 top=$(cd "$(dirname "${BASH_SOURCE[0]}")/../.." && pwd)
 system=${1:?usage: conformance/packages/clean.sh FOLDER}
@@ -23,14 +25,15 @@ mkdir -p "$system/home/tester/packages"
 "$python" "$top/conformance/packages/build.py" "$system/home/tester/packages" >/dev/null
 chown -R 1234:1234 "$system/home/tester"
 
-# Runs commands in the Debian system: run_in_system USER:GROUP COMMANDS
+# Runs shell commands in the Debian system as a user: run_in_system USER:GROUP COMMANDS
 run_in_system() {
     chroot --userspec="$1" "$system" /usr/bin/env -i PATH=/usr/sbin:/usr/bin:/sbin:/bin HOME=/home/tester LANG=C.UTF-8 \
         DEBIAN_FRONTEND=noninteractive bash -euc "$2"
 }
 
-# Prints the version, lists the tests, runs all of them against each kind of authenticator, and writes a report in each
-# format. $1 is the command hidlog-conformance, $2 the command of the reference authenticator.
+# Shell commands for run_in_system: print the version, count the tests, run all of them against each kind of
+# authenticator, and write a report in each format. $1 is the command hidlog-conformance, $2 that of the reference
+# authenticator.
 # shellcheck disable=SC2016 # expanded by the shell in the Debian system
 run_tests='
     $1 --version

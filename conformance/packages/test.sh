@@ -1,6 +1,7 @@
 #!/usr/bin/env bash
-# Builds the packages of the conformance tests twice and compares them. Then runs the wheel in a virtual environment and
-# the files of the deb against the reference authenticator, without this repository. Exit status: 3 if a tool is missing.
+# Tests the packages of the conformance tests, a wheel and a deb. Builds them twice and expects the same files. Then
+# runs a few conformance tests against the reference authenticator, with the wheel in a virtual environment and with the
+# unpacked deb, so that no file of this clone is used. Exits with 3 if a tool is missing.
 set -euo pipefail
 top=$(cd "$(dirname "${BASH_SOURCE[0]}")/../.." && pwd)
 work=$(mktemp -d)
@@ -14,7 +15,7 @@ for folder in one two; do
 done
 diff -r "$work/one" "$work/two"
 
-# Runs a few tests with a command: run_tests COMMAND ..
+# Runs a few conformance tests with a command, and prints the command's version: run_tests COMMAND ..
 run_tests() {
     local summary
     summary=$("$@" --device "$reference" --touch-line touch --only ping/bytes_00 --report text 2>/dev/null | tail -1)

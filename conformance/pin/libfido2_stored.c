@@ -1,7 +1,7 @@
-// Credential management with libfido2: registers with large blob keys, lists,
-// renames and deletes credentials, and writes a large blob, with a PIN. With
-// an argument, only registers and signs in, with built-in user verification.
-// Writes and reads packets as lines, and ends with a line `ok` or `refused`.
+// A client program that uses libfido2, with a PIN: registers with large blob keys, lists, renames and deletes
+// credentials (credential management), and writes a large blob. With an argument, only registers and signs in, with
+// built-in user verification. It writes and reads packets as lines, as conformance/clients/libfido2.c does, and prints
+// a last line that begins with `ok` or `refused`.
 //
 //     gcc -o libfido2_stored conformance/pin/libfido2_stored.c -lfido2
 #define main main_without_pin

@@ -1,10 +1,11 @@
-// Makes a browser see a hidraw device that the kernel does not have: replaces libudev, and the ioctls for a report
-// descriptor. For recordings on a machine without /dev/uhid.
+// Makes a browser find a hidraw device that the kernel does not have, to record the browser on a machine without
+// /dev/uhid. Replaces libudev, with functions that find only this device, and the ioctls that read a report descriptor.
 //
 //     gcc -shared -fPIC -Wl,-soname,libudev.so.1 -Wl,--version-script=fake_udev.map -o libudev.so.1 fake_udev.c
 //     FAKE_HIDRAW=/dev/pts/3 FAKE_SYSFS=FOLDER LD_PRELOAD=./libudev.so.1 chromium ..
 //
-// FOLDER has a file report_descriptor.
+// FAKE_HIDRAW is the file to which the browser writes packets, and from which it reads packets. FOLDER must contain a
+// file report_descriptor.
 #define _GNU_SOURCE
 #include <dlfcn.h>
 #include <linux/hidraw.h>
@@ -25,7 +26,7 @@ struct udev_device {
     bool is_parent;
 };
 
-// Without a subsystem filter all devices are listed.
+// A search for devices. It finds the device if there is no filter for subsystems, or one of them is for hidraw.
 struct udev_enumerate {
     bool is_matched;
     bool wants_hidraw;
@@ -238,7 +239,7 @@ struct udev_device *udev_monitor_receive_device(struct udev_monitor *monitor) {
     return NULL;
 }
 
-// Reads the report descriptor; returns its size, or 0 if there is none.
+// Reads the device's report descriptor from its file. Returns its size, or 0 if there is no file.
 static size_t read_descriptor(unsigned char *to, size_t capacity) {
     char path[300];
     snprintf(path, sizeof path, "%s/report_descriptor", read_setting("FAKE_SYSFS"));
@@ -250,7 +251,7 @@ static size_t read_descriptor(unsigned char *to, size_t capacity) {
     return len;
 }
 
-// Returns whether a file is the device.
+// Returns whether an open file is the device, FAKE_HIDRAW.
 static bool is_device(int file) {
     char path[64], found[256] = "";
     snprintf(path, sizeof path, "/proc/self/fd/%d", file);

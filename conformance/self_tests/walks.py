@@ -12,7 +12,7 @@ from typing import Any, Dict, List, Set, Tuple
 
 import proved_walk
 from hidlog import logs
-from hidlog_conformance.judged_log import Recording, split_at_power_cycles, pad_truncated_packets
+from hidlog_conformance.judged_log import JudgedRecording, split_at_power_cycles, pad_truncated_packets
 from hidlog_conformance.session_file import read_logs
 from hidlog_conformance.transactions import Entry, Lines, Owners, Transactions
 from second_walk import walk_log
@@ -35,7 +35,7 @@ OPEN = ("", "unanswered", "not whole")
 
 def read_entries(log: bytes) -> List[Entry]:
     """Returns the packets of a log, with their transactions by `hidlog_transactions`."""
-    recording, owners = Recording(), Owners(proved_walk.walk(log))
+    recording, owners = JudgedRecording(), Owners(proved_walk.walk(log))
     for number, line in enumerate(log.split(b"\n"), 1):
         recording.take(number, line, owners)
     return list(recording.walk.take_entries())
