@@ -1,9 +1,11 @@
 #!/usr/bin/env bash
-# Counts the instructions of `ctap_cbor::check` with callgrind: the mean over 1,000 varied makeCredential and
-# getAssertion requests of about 450 bytes. Needs rt, valgrind and Python 3.
+# Counts, with callgrind, the instructions that `ctap_cbor::check` takes for a message: the mean over 1,000 different
+# makeCredential and getAssertion requests of about 450 bytes. Needs rt, valgrind and Python 3.
 #
-# The count of a run without rounds is subtracted from that of ten rounds over all messages, so startup and reading are
-# excluded. The program is built in a separate directory, with a copy of the crate.
+#     bench/cbor.sh [DIR]        DIR is the directory for the program and a copy of the crate [default: a new one]
+#
+# The program that calls `check` is run twice, with ten rounds over all messages and without rounds. The difference
+# excludes the program's startup and the reading of the messages.
 set -eu
 here=$(cd "$(dirname "$0")" && pwd)
 work=${1:-$(mktemp -d)}

@@ -1,8 +1,11 @@
 #!/usr/bin/env bash
-# Counts the instructions of an outbox's calls with callgrind: putting a message of maximum length and popping its 129
-# packets, and the same for a message of one byte. Needs rt and valgrind. Each count is the difference between a run of
-# 200 rounds and a run without rounds, divided by 200. The first argument may name a directory with the crates to
-# measure, such as a checkout of an earlier commit.
+# Counts, with callgrind, the instructions that hid_packet's Outbox takes to put a message of maximum length and to pop
+# its 129 packets, and the same for a message of one byte. Needs rt and valgrind.
+#
+#     bench/outbox.sh [DIR]        DIR has the crates to measure, such as a clone at an earlier commit [default: this
+#                                  clone]
+#
+# Each count is the difference between a run of 200 rounds and a run without rounds, divided by 200.
 set -eu
 here=$(cd "$(dirname "$0")/.." && pwd)
 from=${1:-$here}

@@ -1,10 +1,12 @@
 #!/usr/bin/env bash
-# Measures bindings/web/index.html with long logs in each installed browser: the time to the first and to the last row,
-# the longest time for which the page was blocked, the time of a keystroke in the search field, and memory. Needs an
-# otherwise idle machine. Fails if a limit of tests/web/long_tests.js is exceeded.
+# Measures the page bindings/web/index.html in each installed browser, with long logs: the time until it shows the first
+# and the last row, the longest time for which it does not respond, the time that it takes to handle a keystroke in the
+# search field, and its memory. Needs an otherwise idle machine. Fails if a limit of tests/web/long_tests.js is
+# exceeded.
 #
 #     bench/page.sh [chromium | firefox]
-#     sudo chrt -r 1 bench/page.sh chromium      on a busy machine: before all other processes, for half a minute
+#     sudo chrt -r 1 bench/page.sh chromium      on a busy machine: runs with priority over all other processes, for half
+#                                                a minute
 set -euo pipefail
 top=$(cd "$(dirname "${BASH_SOURCE[0]}")/.." && pwd)
 work=$(mktemp -d)

@@ -1,10 +1,9 @@
 #!/usr/bin/env bash
-# Compares the instructions of `hidlog replay` for a PING, a getInfo, a registration and a sign-in (flows.py) with those
-# of a C program that has the same output for these flows (peer/peer.h). First checks that both programs write the same
-# output for the flows, and for the worked logs that the C program supports. Needs gcc, libssl-dev, valgrind and Python
-# 3.
+# Compares how many instructions `hidlog replay` and an equivalent C program (peer/peer.h) execute for a PING, a
+# getInfo, a registration and a sign-in (flows.py). First checks that both programs write the same output for these
+# logs, and counts the worked logs for which they do. Needs gcc, libssl-dev, valgrind and Python 3.
 #
-#     bench/peer.sh [PROGRAM]        [default: release/hidlog]
+#     bench/peer.sh [PROGRAM]        PROGRAM is the program hidlog [default: release/hidlog]
 set -euo pipefail
 cd "$(dirname "${BASH_SOURCE[0]}")/.."
 program=${1:-release/hidlog}
@@ -13,7 +12,7 @@ trap 'rm -rf "$work"' EXIT
 gcc -std=c11 -D_GNU_SOURCE -O3 -march=x86-64-v2 -flto -Wall -Wextra -Werror -Wno-deprecated-declarations -o "$work/peer" \
     bench/peer/*.c -lcrypto
 
-# Checks whether both programs write the same output for a log: is_same_output LOG
+# Returns whether both programs succeed for a log and write the same output: is_same_output LOG
 is_same_output() {
     "$program" replay <"$1" >"$work/wanted" 2>"$work/fault" && "$work/peer" <"$1" >"$work/written" &&
         cmp -s "$work/wanted" "$work/written"
@@ -21,15 +20,16 @@ is_same_output() {
 
 python3 bench/flows.py --logs "$work"
 for flow in "$work"/*.log; do
-    is_same_output "$flow" || { echo "bench/peer.sh: the outputs of both programs differ for $flow" >&2; exit 1; }
+    is_same_output "$flow" || { echo "bench/peer.sh: hidlog and the C program write different outputs for $flow" >&2; exit 1; }
 done
 count=0
 for log in crates/hidlog_cli/data/capacity_64/*.log; do
     ! is_same_output "$log" || count=$((count + 1))
 done
 echo "same output for each flow, and for $count worked logs"
-# Columns: the flow; hidlog; the C program with a scalar SHA-256, and hidlog's ratio to it; the C program with the
-# SHA-256 that OpenSSL selects, and hidlog's ratio to it.
+# Prints these columns: the name of the flow; the instructions of hidlog; those of the C program without vector
+# instructions for SHA-256, and hidlog's divided by them; those of the C program with the SHA-256 that OpenSSL selects,
+# and hidlog's divided by them.
 paste <(python3 bench/flows.py "$program") <(OPENSSL_ia32cap=0:0 python3 bench/flows.py "$work/peer") \
     <(python3 bench/flows.py "$work/peer") |
     awk '{ printf "%-12s %8d  %8d %6.2f  %8d %6.2f\n", $1, $2, $4, $2 / $4, $6, $2 / $6 }'

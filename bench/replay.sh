@@ -1,11 +1,10 @@
 #!/usr/bin/env bash
-# Measures the cost per line of `hidlog replay` from a file to a file: instructions (callgrind), system calls (strace)
-# and processor time. The logs have 1,000 and 100,000 lines of one kind: PINGs of 5 and of 57 bytes,
-# authenticatorGetInfo, ticks and comments. Compares the costs with those of bench/peer, a C program with the same
-# output for these lines. Needs gcc, libssl-dev, valgrind, strace and Python 3. The cost of an empty log is subtracted,
-# so startup is excluded.
+# Measures what a log line costs `hidlog replay`: instructions (callgrind), system calls (strace) and processor time.
+# Also measures bench/peer, a C program that writes the same output. Each log has 1,000 or 100,000 lines of one kind:
+# PINGs of 5 or of 57 bytes, authenticatorGetInfo, ticks or comments. The cost of a log without these lines is
+# subtracted, to exclude the startup. Needs gcc, libssl-dev, valgrind, strace and Python 3.
 #
-#     bench/replay.sh [DIR]
+#     bench/replay.sh [DIR]        DIR is the directory for the logs and outputs [default: a new one]
 set -euo pipefail
 here=$(cd "$(dirname "$0")" && pwd)
 work=${1:-$(mktemp -d)}
@@ -13,7 +12,8 @@ mkdir -p "$work"
 program=$here/../release/hidlog
 gcc -std=c11 -D_GNU_SOURCE -O3 -march=x86-64-v2 -flto -Wno-deprecated-declarations -o "$work/peer" "$here"/peer/*.c -lcrypto
 
-# Prints a log with an INIT, which allocates channel 1, and then lines of one kind: print_log KIND COUNT
+# Prints a log that begins with an INIT, which allocates channel 1, and has COUNT lines of one kind: print_log KIND
+# COUNT
 print_log() {
     python3 - "$1" "$2" <<'PYTHON'
 import sys
@@ -31,13 +31,14 @@ count_instructions() {
         sed -n 's/.*Collected : \([0-9]*\).*/\1/p'
 }
 
-count_calls() {
+count_system_calls() {
     strace -f -c -o "$work/calls" "${@:2}" <"$1" >"$work/output"
     awk '$NF == "total" { print $4 }' "$work/calls"
 }
 
-# Measures the processor time per line of both programs in nanoseconds: medians of 25 alternating runs, because a
-# machine's speed varies. Short logs are not measured, since the startup time dominates.
+# Prints the processor time per line of both programs in nanoseconds: measure_nanoseconds KIND COUNT. Runs the programs
+# 25 times alternately and takes the medians, since a machine's speed varies. Call it only for long logs: for short
+# ones, the startup takes most of the time.
 measure_nanoseconds() {
     python3 - "$work" "$1" "$2" "$program" <<'PYTHON'
 import resource, statistics, subprocess, sys
@@ -60,6 +61,8 @@ print(f"  {1e9 * (whole - none) / count:10.0f} {f'({1e9 * (whole_c - none_c) / c
 PYTHON
 }
 
+# Prints the cost of one line, by a function that prints the cost of a whole run:
+# print_cost_per_line FUNCTION KIND COUNT PROGRAM ..
 print_cost_per_line() {
     local measure=$1 kind=$2 count=$3
     shift 3
@@ -75,7 +78,7 @@ for kind in ping long_ping get_info tick long_tick comment; do
         "$program" replay <"$work/$kind.$count" >"$work/first"
         "$work/peer" <"$work/$kind.$count" | cmp - "$work/first"
         printf '%-9s %7s' "$kind" "$count"
-        for measure in count_instructions count_calls; do
+        for measure in count_instructions count_system_calls; do
             printf '  %10s %10s' "$(print_cost_per_line $measure $kind $count "$program" replay)" \
                 "($(print_cost_per_line $measure $kind $count "$work/peer"))"
         done

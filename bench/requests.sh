@@ -1,8 +1,8 @@
 #!/usr/bin/env bash
-# Counts, with callgrind, the instructions of `ctap_message::read_request`, and of `ctap_cbor::check` on the bytes after
-# the command byte. The requests are a makeCredential of 91 bytes, a getAssertion of 50 bytes, and a getAssertion with
-# an allowList of 64 descriptors. The goal is that `read_request` needs at most three times the instructions of `check`,
-# since a request is checked and then parsed. Needs rt, valgrind and Python 3.
+# Counts, with callgrind, the instructions of `ctap_message::read_request` for a request, and those of
+# `ctap_cbor::check` for the request's CBOR. The requests are a makeCredential of 91 bytes, a getAssertion of 50 bytes,
+# and a getAssertion with an allowList of 64 descriptors. The goal is that `read_request`, which calls `check` and then
+# parses the request, takes at most three times the instructions of `check`. Needs rt, valgrind and Python 3.
 #
 # Each count is the difference between a run of 250 rounds and a run without rounds, so startup is excluded. The program
 # is built in a separate directory, with copies of the crates.

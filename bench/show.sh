@@ -1,7 +1,9 @@
 #!/usr/bin/env bash
-# Prints the throughput of `hidlog show`, in MB of log per second of processor time: bench/show.sh [PROGRAM], by default
-# release/hidlog. There are three logs of 24 MB: the worked logs, repeated; requests with a long byte string; and
-# requests with a long text string of control characters, which are escaped with six characters each.
+# Measures how many MB of a log `hidlog show` handles per second of processor time, for three logs of 24 MB: the worked
+# logs, repeated; requests with a long byte string; and requests with a long text string of control characters, each of
+# which `show` writes as six characters.
+#
+#     bench/show.sh [PROGRAM]        PROGRAM is the program hidlog [default: release/hidlog]
 set -euo pipefail
 top=$(cd "$(dirname "$0")/.." && pwd)
 program=${1:-$top/release/hidlog}

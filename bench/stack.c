@@ -1,5 +1,5 @@
-/* Measures the stack use of functions of the C library: each function runs on a thread whose stack is filled with a
- * pattern, and the deepest overwritten byte shows how much stack was used.
+/* Measures how many bytes of stack the functions of the C library use: calls each function on a thread whose stack has
+ * been filled with a pattern, and finds the deepest byte that was overwritten.
  *
  *     stack LOG SNAPSHOT */
 #include <pthread.h>
@@ -68,7 +68,7 @@ static void replay_lines(void) {
     hidlog_key_replay_lines(&key, session_log.data, session_log.len, out, sizeof out, &result);
 }
 
-/* Sends INIT, and reads the response. */
+/* Sends INIT on the broadcast channel, and reads the response. */
 static void exchange_init(void) {
     uint8_t bytes[64] = {0xff, 0xff, 0xff, 0xff, 0x86, 0, 8, 0, 1, 2, 3, 4, 5, 6, 7};
     hidlog_key_write_packet(&key, 100000, bytes);
@@ -108,7 +108,7 @@ static void *run_call(void *call) {
     return NULL;
 }
 
-/* Returns the stack use of `call` in bytes, measured on a thread of its own. */
+/* Calls `call` on a new thread, and returns how many bytes of the thread's stack were overwritten. */
 static size_t measure_stack_use(void (*call)(void)) {
     pthread_attr_t attributes;
     pthread_t thread;
@@ -116,7 +116,7 @@ static size_t measure_stack_use(void (*call)(void)) {
     memset(stack, PATTERN, STACK);
     if (pthread_attr_init(&attributes) || pthread_attr_setstack(&attributes, stack, STACK) ||
         pthread_create(&thread, &attributes, run_call, &call) || pthread_join(thread, NULL)) {
-        fputs("stack: cannot start a thread\n", stderr);
+        fputs("stack: cannot start or join a thread\n", stderr);
         exit(2);
     }
     pthread_attr_destroy(&attributes);
@@ -148,7 +148,7 @@ int main(int count, char **words) {
         {"hidlog_key_save_snapshot", save_snapshot},
         {"hidlog_key_clear_credentials", clear_credentials},
     };
-    size_t own;
+    size_t thread_use; // stack use of a thread that calls nothing
     if (count != 3) {
         fputs("usage: stack LOG SNAPSHOT\n", stderr);
         return 2;
@@ -160,9 +160,9 @@ int main(int count, char **words) {
     if (key.memory == NULL || stack == NULL) {
         return 2;
     }
-    own = measure_stack_use(do_nothing);
+    thread_use = measure_stack_use(do_nothing);
     for (size_t i = 0; i < sizeof calls / sizeof calls[0]; i++) {
-        printf("%7zu  %s\n", measure_stack_use(calls[i].call) - own, calls[i].name);
+        printf("%7zu  %s\n", measure_stack_use(calls[i].call) - thread_use, calls[i].name);
     }
     return 0;
 }

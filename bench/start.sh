@@ -1,11 +1,12 @@
 #!/usr/bin/env bash
-# Measures the program's startup cost and stack use: the instructions (callgrind) of each command for a log with one
-# INIT, and the smallest stack, in kB, with which each command can run a whole session. Then measures the stack use of
-# functions of the C library (bench/stack.c). Needs valgrind, gcc and Python 3.
+# Measures the startup cost and the stack use of the program hidlog: for each command, the instructions (callgrind) for
+# a log with one INIT, and the smallest stack, in kB, with which the command can replay a whole session. Then measures
+# the stack use of the C library's functions (bench/stack.c). Needs valgrind, gcc and Python 3.
 #
-# glibc clears and copies more than a few kB with `rep stos` and `rep movs`, and Valgrind counts each byte of these as
-# an instruction: 140,000 of 221,000 for an INIT. Since a processor handles ten bytes or more per cycle, a glibc tunable
-# selects loops instead. The count without the tunable is in parentheses.
+# glibc clears and copies large blocks with the string instructions `rep stos` and `rep movs`, for which Valgrind counts
+# each byte as an instruction: 140,000 of 221,000 for an INIT. A processor handles ten bytes or more of these per cycle,
+# so the counts are misleading. Therefore a glibc tunable makes glibc use loops; the count without the tunable is in
+# parentheses.
 #
 #     bench/start.sh [PROGRAM [LIBRARY]]        [default: release/hidlog and release/libhidlog.a]
 set -euo pipefail
@@ -17,7 +18,7 @@ trap 'rm -rf "$work"' EXIT
 printf '> 0 ffffffff8600080001020304050607%098d\n' 0 >"$work/init"
 "$program" replay <"$work/init" >"$work/log"
 
-# Counts the instructions of a command with these glibc tunables: count_instructions TUNABLES WORD ..
+# Prints the number of instructions of a command, with these glibc tunables: count_instructions TUNABLES WORD ..
 count_instructions() {
     GLIBC_TUNABLES=$1 valgrind --tool=callgrind --callgrind-out-file=/dev/null "$program" "${@:2}" <"$work/log" 2>&1 >/dev/null |
         sed -n 's/.*Collected : \([0-9]*\).*/\1/p'
@@ -36,7 +37,7 @@ import resource
 import subprocess
 import sys
 
-# Disables address space randomization, since the stack would otherwise start at a random offset within 8 kB.
+# Disables address space layout randomization, which would move the start of the stack by up to 8 kB at random.
 ADDR_NO_RANDOMIZE = 0x0040000
 SYSTEM = ctypes.CDLL(None)
 SNAPSHOT = ["--load", "examples/example_com.snapshot"]

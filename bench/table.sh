@@ -1,13 +1,15 @@
 #!/usr/bin/env bash
-# Counts, with callgrind, the instructions of each call of cred_table's two credential tables: `Listed` (a list of
-# rows) and `Chained` (linked lists by age and by ID). Each has capacity for 256 rows and holds 1, 64 or 256. Needs rt
-# and valgrind.
+# Counts, with callgrind, the instructions of each function of the two tables for credentials in the crate cred_table:
+# `Listed` (a list of rows) and `Chained` (linked lists by age and by ID). Each table has capacity for 256 rows, and has
+# 1, 64 or 256 rows. Needs rt and valgrind.
 #
-# Except for `put`, a count is for one round, the mean of 1,020: a run of 1,020 rounds minus a run without rounds. A
-# round is the call and the calls that its precondition needs: `raise` needs a `find`, and `replace` a `find` and a
-# `same_user`. For `put`, a round clears the table and puts all rows, each with a `find`; its count is the mean of 16
-# rounds minus one call of `clear`, divided by the number of rows. The program is built in a separate directory, with
-# copies of the crates.
+#     bench/table.sh [DIR]        DIR is the directory for the program and copies of the crates [default: a new one]
+#
+# The count of a function is that of one round: a run of 1,020 rounds minus a run without rounds, divided by 1,020. A
+# round is one call, after the calls that its precondition requires: `raise` requires a `find`, and `replace` a `find`
+# and a
+# `same_user`. For `put`, a round clears the table and puts all rows, each after a `find`. Its count is the mean of 16
+# rounds, minus one call of `clear`, divided by the number of rows.
 set -eu
 here=$(cd "$(dirname "$0")" && pwd)
 work=${1:-$(mktemp -d)}
@@ -20,8 +22,8 @@ done
 printf '%s\n' 'ctap_cbor: byteorder thiserror' 'cred_table: ctap_cbor arrayvec thiserror' \
     'table_bench: cred_table' > "$work/crates.txt"
 cat > "$work/crates/table_bench/src/main.rt" <<'PROGRAM'
-//! Calls a table, as specified by four bytes on standard input: the table, the call, its number of rows minus one, and a
-//! quarter of the number of rounds.
+//! Calls a table, as specified by four bytes on standard input: the table, the call, its number of rows minus one, and
+//! a quarter of the number of rounds.
 #![tactic(auto)]
 
 use cred_table::{Chained, Listed, Row, Table};
@@ -142,13 +144,13 @@ cd "$work/crates/table_bench"
 printf 'cf\0\0' > "$work/input"
 rt run < "$work/input" > "$work/answer"
 program=$(find out -maxdepth 3 -type f -executable -name 'table_bench*' | head -n 1)
-# Prints the instructions of a whole run of 4 * QUARTERS rounds: count_instructions TABLE CALL ROWS QUARTERS
+# Prints the number of instructions of a run with 4 * QUARTERS rounds: count_instructions TABLE CALL ROWS QUARTERS
 count_instructions() {
     printf "$1$2\\x$(printf %x $(($3 - 1)))\\x$(printf %x "$4")" > "$work/input"
     valgrind --tool=callgrind --callgrind-out-file="$work/callgrind" "$program" < "$work/input" 2>&1 > "$work/answer" |
         sed -n 's/.*Collected : //p'
 }
-# Prints the instructions of one round: count_round_instructions TABLE CALL ROWS
+# Prints the mean number of instructions of one round: count_round_instructions TABLE CALL ROWS
 count_round_instructions() {
     local quarters=$((256 - 1))
     if [ "$2" = p ]; then quarters=4; fi

@@ -1,4 +1,5 @@
-/* authenticatorMakeCredential, authenticatorGetAssertion and authenticatorGetInfo (CTAP 2.1, section 6). */
+/* Implements the requests authenticatorMakeCredential, authenticatorGetAssertion and authenticatorGetInfo (CTAP 2.1,
+ * section 6). */
 #include "peer.h"
 
 #include <openssl/sha.h>
@@ -108,7 +109,7 @@ static struct string read_key(struct reader *reader) {
     return cbor_read_string(reader, TEXT, &key) ? key : (struct string){0};
 }
 
-/* The following functions decode a member of a request, or skip it. Each returns OK or a CTAP2 error status. */
+/* The following functions each decode a parameter of a request, or skip it. They return OK, or a CTAP2 error status. */
 
 static uint8_t read_rp(struct reader *reader, struct request *request) {
     uint64_t pairs;
@@ -402,7 +403,7 @@ static struct credential *find_credential_of_user(const struct credential *made)
     return NULL;
 }
 
-/* Hashes an RP ID with SHA-256. An RP ID that fits in one block is hashed by SHA256_Transform, which is faster. */
+/* Hashes an RP ID with SHA-256. SHA256_Transform is faster for up to 55 bytes, which fit in one block. */
 static void hash_rp_id(struct string rp_id, uint8_t hash[HASH_BYTES]) {
     if (rp_id.len > 55) {
         SHA256(rp_id.data, rp_id.len, hash);
@@ -553,7 +554,7 @@ void authenticator_provide_key_pair(uint64_t now_ms, const uint8_t *key_pair) {
     pending.need = SIGNATURE;
 }
 
-/* A response, to which its parts are appended. */
+/* The bytes of a response so far. */
 struct response {
     uint8_t bytes[MAX_RESPONSE_BYTES];
     size_t len;

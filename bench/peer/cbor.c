@@ -1,4 +1,5 @@
-/* The CTAP2 canonical CBOR encoding form: a strict check of an encoding, and functions that decode checked encodings. */
+/* Implements the CTAP2 canonical CBOR encoding form: checks strictly that bytes have this form, and decodes bytes that
+ * have been checked. */
 #include "peer.h"
 
 #include <string.h>
@@ -63,8 +64,8 @@ static bool check_head(struct checker *check, enum major *major, uint64_t *numbe
 
 static bool check_item(struct checker *check, int level, bool is_key);
 
-/* Checks a map, whose keys must be in canonical order: by major type, then by length, then by bytes. Since heads must
- * have their shortest form, comparing the encoded bytes is enough. */
+/* Checks a map, whose keys must be in canonical order: by major type, then by length, then by bytes. The encoded keys
+ * can be compared byte by byte for this, since each head must have its shortest form. */
 static bool check_map(struct checker *check, uint64_t pairs, int level) {
     const uint8_t *last = NULL;
     size_t last_len = 0;

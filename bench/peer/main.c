@@ -1,5 +1,5 @@
-/* Replays a log: reads it from standard input, in lines of at most 255 bytes, and writes each input and comment, and
- * the packets sent in response, with one write call. */
+/* Replays the log on standard input, whose lines have at most 255 bytes. Writes each comment, and each input with the
+ * packets that the key sends in response, with one call of write. */
 #include "peer.h"
 
 #include <stdio.h>
@@ -77,7 +77,7 @@ static void advance_time(uint64_t time_ms) {
     transport_advance_time(now_ms);
 }
 
-static bool play_packet(const uint8_t *line, size_t line_len, uint64_t time_ms, const uint8_t *field, size_t len) {
+static bool replay_packet(const uint8_t *line, size_t line_len, uint64_t time_ms, const uint8_t *field, size_t len) {
     uint8_t packet[PACKET_BYTES];
     if (len != 2 * PACKET_BYTES || !decode_hex(field, len, packet)) {
         return false;
@@ -88,7 +88,7 @@ static bool play_packet(const uint8_t *line, size_t line_len, uint64_t time_ms, 
     return true;
 }
 
-static bool play_presence(const uint8_t *line, size_t line_len, uint64_t time_ms, const uint8_t *field, size_t len) {
+static bool replay_presence(const uint8_t *line, size_t line_len, uint64_t time_ms, const uint8_t *field, size_t len) {
     bool is_granted = field_equals(field, len, "granted");
     if (!is_granted && !field_equals(field, len, "denied") && !field_equals(field, len, "timeout")) {
         return false;
@@ -99,7 +99,7 @@ static bool play_presence(const uint8_t *line, size_t line_len, uint64_t time_ms
     return true;
 }
 
-static bool play_key_pair(const uint8_t *line, size_t line_len, uint64_t time_ms, const uint8_t *field, size_t len) {
+static bool replay_key_pair(const uint8_t *line, size_t line_len, uint64_t time_ms, const uint8_t *field, size_t len) {
     uint8_t key_pair[KEY_PAIR_BYTES];
     bool is_refused = field_equals(field, len, "no");
     if (!is_refused &&
@@ -113,7 +113,7 @@ static bool play_key_pair(const uint8_t *line, size_t line_len, uint64_t time_ms
     return true;
 }
 
-static bool play_signature(const uint8_t *line, size_t line_len, uint64_t time_ms, const uint8_t *field, size_t len) {
+static bool replay_signature(const uint8_t *line, size_t line_len, uint64_t time_ms, const uint8_t *field, size_t len) {
     uint8_t signature[72];
     bool is_refused = field_equals(field, len, "no");
     if (!is_refused && (len < 2 || len > 144 || len % 2 != 0 || !decode_hex(field, len, signature))) {
@@ -125,7 +125,7 @@ static bool play_signature(const uint8_t *line, size_t line_len, uint64_t time_m
     return true;
 }
 
-static bool play_tick(const uint8_t *line, size_t len) {
+static bool replay_tick(const uint8_t *line, size_t len) {
     uint64_t time_ms;
     if (!parse_time(line + 2, len - 2, &time_ms)) {
         return false;
@@ -135,7 +135,7 @@ static bool play_tick(const uint8_t *line, size_t len) {
     return true;
 }
 
-static bool play_input(const uint8_t *line, size_t len) {
+static bool replay_input(const uint8_t *line, size_t len) {
     const uint8_t *space = memchr(line + 2, ' ', len - 2);
     uint64_t time_ms;
     if (space == NULL || !parse_time(line + 2, (size_t)(space - line - 2), &time_ms)) {
@@ -145,19 +145,19 @@ static bool play_input(const uint8_t *line, size_t len) {
     size_t field_len = (size_t)(line + len - field);
     switch (line[0]) {
     case '>':
-        return play_packet(line, len, time_ms, field, field_len);
+        return replay_packet(line, len, time_ms, field, field_len);
     case 'p':
-        return play_presence(line, len, time_ms, field, field_len);
+        return replay_presence(line, len, time_ms, field, field_len);
     case 'k':
-        return play_key_pair(line, len, time_ms, field, field_len);
+        return replay_key_pair(line, len, time_ms, field, field_len);
     case 's':
-        return play_signature(line, len, time_ms, field, field_len);
+        return replay_signature(line, len, time_ms, field, field_len);
     default:
         return false;
     }
 }
 
-static bool play_line(const uint8_t *line, size_t len) {
+static bool replay_line(const uint8_t *line, size_t len) {
     if (len == 0 || line[0] == '#') {
         copy_line(line, len);
         return flush();
@@ -172,11 +172,12 @@ static bool play_line(const uint8_t *line, size_t len) {
         uint8_t packet[PACKET_BYTES];
         return len == 2 + 2 * PACKET_BYTES && decode_hex(line + 2, len - 2, packet);
     }
-    bool is_valid = line[0] == 't' ? play_tick(line, len) : play_input(line, len);
+    bool is_valid = line[0] == 't' ? replay_tick(line, len) : replay_input(line, len);
     return is_valid && flush();
 }
 
-/* Reads more of the log into the window. Returns the number of bytes, 0 at the end, or -1 on an error. */
+/* Removes the handled lines from the buffer `window`, and reads more of the log into it. Returns the number of bytes
+ * that were read, 0 at the log's end, or -1 on an error. */
 static ssize_t read_more_input(void) {
     memmove(window, window + window_start, window_len - window_start);
     window_len -= window_start;
@@ -186,12 +187,12 @@ static ssize_t read_more_input(void) {
     return count;
 }
 
-static bool play_log(void) {
+static bool replay_log(void) {
     for (;;) {
         const uint8_t *newline = memchr(window + window_start, '\n', window_len - window_start);
         if (newline != NULL) {
             size_t len = (size_t)(newline - (window + window_start));
-            if (len > MAX_LINE_BYTES || !play_line(window + window_start, len)) {
+            if (len > MAX_LINE_BYTES || !replay_line(window + window_start, len)) {
                 return false;
             }
             window_start += len + 1;
@@ -203,7 +204,7 @@ static bool play_log(void) {
         ssize_t count = read_more_input();
         if (count <= 0) {
             return count == 0 &&
-                   (window_len == window_start || play_line(window + window_start, window_len - window_start));
+                   (window_len == window_start || replay_line(window + window_start, window_len - window_start));
         }
     }
 }
@@ -221,7 +222,7 @@ static void init_digit_tables(void) {
 
 int main(void) {
     init_digit_tables();
-    if (!play_log()) {
+    if (!replay_log()) {
         return 1;
     }
     struct stats stats = authenticator_stats();

@@ -1,5 +1,5 @@
-/* A second implementation of the security key, in C, as a baseline for the speed of `hidlog replay`. It writes the
- * same output as `hidlog replay` for the flows of bench/flows.py.
+/* The declarations of a second implementation of the security key, in C, with which the speed of `hidlog replay` is
+ * compared. It writes the same output as `hidlog replay` for the flows of bench/flows.py.
  *
  * The code is scalar. It uses lookup tables for hexadecimal digits, and OpenSSL's SHA-256, which bench/peer.sh runs
  * with and without vector instructions. For a log of INIT, PING, getInfo, makeCredential, getAssertion, replies,
@@ -31,7 +31,7 @@ enum {
 
 enum command { PING = 0x01, INIT = 0x06, CBOR = 0x10, CANCEL = 0x11, KEEPALIVE = 0x3b, ERROR = 0x3f };
 
-/* Writes a packet of the key as a line of the log, after the line of the input that caused the packet. */
+/* Appends a packet that the key sends to the output, as a line of the log. */
 void log_sent_packet(const uint8_t packet[PACKET_BYTES]);
 
 /* The transport. */
@@ -40,8 +40,8 @@ void transport_advance_time(uint64_t now_ms);
 void transport_send(uint32_t channel, enum command command, const uint8_t *message, size_t len);
 size_t transport_peak_message_bytes(void);
 
-/* The authenticator. A request is pending until its response is sent, and belongs to the channel on which it was
- * sent. */
+/* The authenticator. It handles one request at a time, which is pending until the response is sent, and belongs to the
+ * channel on which the request came. */
 enum need { NO_NEED, PRESENCE, KEY_PAIR, SIGNATURE };
 struct stats {
     uint64_t requests, bytes, steps;

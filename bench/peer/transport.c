@@ -1,4 +1,5 @@
-/* Channels, and reassembly and timeout of messages (CTAP 2.1, section 11.2, USB HID). */
+/* Implements CTAPHID (CTAP 2.1, section 11.2): allocates channels, reassembles messages from packets, and handles their
+ * timeouts. */
 #include "peer.h"
 
 #include <string.h>
@@ -86,8 +87,8 @@ static void handle_message(uint64_t now_ms, uint32_t channel, uint8_t command, c
     }
 }
 
-/* Responds to INIT: on the broadcast channel it allocates a channel, on another channel it aborts the transaction
- * there. */
+/* Responds to an INIT: allocates a channel if it came on the broadcast channel, and otherwise aborts the transaction on
+ * its channel. */
 static void handle_init(uint32_t channel, const uint8_t *nonce, size_t len) {
     if (message.is_open && message.channel == channel) {
         message.is_open = false;
