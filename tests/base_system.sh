@@ -1,7 +1,9 @@
 #!/usr/bin/env bash
-# Runs the README's first two commands in Debian's base system, as an unprivileged user: tests/base_system.sh FOLDER
+# Tests that the README's first two commands work in Debian's base system, as an unprivileged user:
+# tests/base_system.sh FOLDER
 #
-# FOLDER is created by debootstrap or reused. Needs root, debootstrap and a Debian mirror.
+# FOLDER is the root of the Debian system. If it does not exist, debootstrap installs the base system there. Needs root,
+# debootstrap and a Debian mirror.
 set -euo pipefail
 top=$(cd "$(dirname "${BASH_SOURCE[0]}")/.." && pwd)
 work=${1:?usage: tests/base_system.sh FOLDER}

@@ -28,14 +28,19 @@ import os
 import re
 import shutil
 import signal
+import socket
 import subprocess
 import sys
 import tempfile
+import time
+from collections.abc import Iterator
 from dataclasses import dataclass, field
 from pathlib import Path
 
 TOP = Path(__file__).resolve().parent.parent
 TIMEOUT_SECONDS = 1200
+# Seconds in which a server that another run left has ended.
+PORT_SECONDS = 60
 INDENT = "    "
 # Pages with paths of older versions, and generated pages.
 UNCHECKED_PAGES = ("CHANGELOG.md", "MAP.md")
@@ -187,19 +192,65 @@ def make_environment(installed: Path) -> dict[str, str]:
 BACKGROUND_SERVER = re.compile(r"^(.*(?:--port|http\.server) \d+.*)& sleep \d+$", re.MULTILINE)
 
 
+def list_ports(command: str) -> list[str]:
+    """Returns the ports on which a command's servers listen."""
+    return re.findall(r"(?:--port|http\.server) (\d+)", command)
+
+
+def is_used(port: str) -> bool:
+    """Returns whether a server of this machine listens on a port."""
+    try:
+        socket.create_connection(("127.0.0.1", int(port))).close()
+    except OSError:
+        return False
+    return True
+
+
+@contextlib.contextmanager
+def reserve_ports(command: str) -> Iterator[None]:
+    """Waits until no other run of this script uses the ports of a command's servers, and holds them. Raises TimeoutError
+    if another program uses one."""
+    with contextlib.ExitStack() as held:
+        for port in sorted({port for found in BACKGROUND_SERVER.findall(command) for port in list_ports(found)}):
+            lock = held.enter_context(socket.socket(socket.AF_UNIX))
+            end = time.monotonic() + TIMEOUT_SECONDS
+            while time.monotonic() < end:
+                with contextlib.suppress(OSError):
+                    lock.bind(f"\0hidlog tests/docs.py {port}")  # an abstract address: it has no file
+                    break
+                time.sleep(0.2)
+            end = time.monotonic() + PORT_SECONDS
+            while is_used(port):
+                if time.monotonic() >= end:
+                    raise TimeoutError(f"another program uses port {port}")
+                time.sleep(0.2)
+        yield
+
+
 def wait_for_servers(command: str) -> str:
     """Returns a command that waits until the servers listen on their ports, instead of sleeping, because the machine
     may be busy."""
 
-    def line(found: re.Match[str]) -> str:
-        ports = re.findall(r"(?:--port|http\.server) (\d+)", found[1])
-        waits = (f"until (exec 9<>/dev/tcp/127.0.0.1/{port}) 2>/dev/null; do sleep 0.2; done" for port in ports)
+    def replace_sleep(found: re.Match[str]) -> str:
+        waits = (
+            f"until (exec 9<>/dev/tcp/127.0.0.1/{port}) 2>/dev/null; do sleep 0.2; done"
+            for port in list_ports(found[1])
+        )
         return f"{found[1]}& " + "; ".join(waits)
 
-    return BACKGROUND_SERVER.sub(line, command)
+    return BACKGROUND_SERVER.sub(replace_sleep, command)
 
 
 def run_command(command: str, folder: Path, installed: Path | None = None) -> tuple[int, str]:
+    """Runs a command in a folder, once the ports of its servers are free. Returns its exit status and output."""
+    try:
+        with reserve_ports(command):
+            return run_and_kill(command, folder, installed)
+    except TimeoutError as error:
+        return STATUS_MISSING + 1, f"{error}\n"
+
+
+def run_and_kill(command: str, folder: Path, installed: Path | None) -> tuple[int, str]:
     """Runs a command in a folder. Returns its exit status and output. Kills the processes that the command leaves."""
     with (
         tempfile.TemporaryFile() as printed,

@@ -1,16 +1,16 @@
 #!/usr/bin/env bash
-# Runs the fuzzers and some conformance tests on a local Dask cluster and with local processes, and compares the
-# results. One of the cluster's workers is killed during the runs. Exits with 3 if Debian's python3-distributed is
-# missing.
+# Tests the option --executor of the fuzzers and of the conformance tests: runs them on a local Dask cluster and with
+# local processes, and expects equal results. Kills one of the cluster's workers during the runs. Exits with 3 if
+# Debian's python3-distributed is missing.
 set -euo pipefail
 top=$(cd "$(dirname "${BASH_SOURCE[0]}")/.." && pwd)
 python=/usr/bin/python3
 "$python" -c 'import distributed, cryptography' 2>/dev/null ||
-    { echo "tests/executors.sh: distributed or cryptography is missing (apt-get install python3-distributed python3-cryptography)" >&2 && exit 3; }
+    { echo "tests/executors.sh: the Python package distributed or cryptography is missing (apt-get install python3-distributed python3-cryptography)" >&2 && exit 3; }
 work=$(mktemp -d)
 started=()
-# Uses SIGKILL, because on SIGTERM the scheduler and the workers may wait for each other forever. They have no state to
-# save.
+# Ends the scheduler and the workers with SIGKILL: after SIGTERM they may wait for each other forever. They have no
+# state to save.
 stop_cluster() {
     kill -KILL "${started[@]}" 2>/dev/null || true
     wait 2>/dev/null || true # the shell reports the kills
@@ -18,7 +18,7 @@ stop_cluster() {
 }
 trap stop_cluster EXIT
 cd "$work" # workers write temporary files here
-# A newer scheduler deserializes tasks, so the scheduler needs the modules as well.
+# The scheduler needs this PYTHONPATH, too, since newer versions of it deserialize the tasks.
 PYTHONPATH=$top/conformance:$top/tests/fuzz "$python" -m distributed.cli.dask_scheduler --host 127.0.0.1 --port 0 --no-dashboard \
     --scheduler-file "$work/scheduler.json" >"$work/scheduler" 2>&1 &
 started+=($!)
@@ -35,8 +35,8 @@ address=$(sed -n 's|.*"address": "tcp://\(127[^"]*\)".*|\1|p' "$work/scheduler.j
 executor=dask://$address
 failed=0
 
-# Compares the results of a command on the Dask workers with those of local processes:
-# compare_results NAME PATTERN COMMAND ..
+# Runs a command with local processes and on the Dask workers, and compares the lines of its output that match a
+# pattern: compare_results TITLE PATTERN COMMAND ..
 compare_results() {
     "${@:3}" 2>/dev/null | grep -E "$2" | sed 's/; [0-9]* s$//' >"$work/here" || true
     "${@:3}" --executor "$executor" 2>"$work/faults" | grep -E "$2" | sed 's/; [0-9]* s$//' >"$work/there" || true

@@ -1,5 +1,6 @@
 #!/usr/bin/env bash
-# Tests ./hidlog in a copy of the repository, with only the base system's programs on PATH.
+# Tests ./hidlog, the script that runs the verified program in a clone: in a copy of the repository, with only a few
+# programs of the base system on PATH.
 set -euo pipefail
 top=$(cd "$(dirname "${BASH_SOURCE[0]}")/.." && pwd)
 work=$(mktemp -d)
@@ -10,7 +11,7 @@ copy="$work/a copy"
 mkdir -p "$copy/crates" "$work/bin"
 cp -a "$top"/{hidlog,crates.txt,HANDLES,release,packages,bindings} "$copy/"
 (cd "$top" && packages/release_sources.sh | grep ^crates/ | xargs cp -a --parents -t "$copy")
-# All files get the same modification time, as in a new clone, so that release/BUILD is not older than the sources.
+# Give all files the same modification time, as in a new clone, so that release/BUILD is not older than the sources.
 find "$copy" -exec touch -h -d 2010-01-01 {} +
 touch -d 2010-01-01 "$copy/release/BUILD"
 every_path=$PATH
@@ -18,7 +19,7 @@ for name in sh awk cat cut dirname find grep readlink sed sha256sum sort uname x
     ln -s "$(command -v "$name")" "$work/bin/$name"
 done
 export PATH=$work/bin
-# The launcher must not run the toolchain, even if it is installed.
+# A toolchain that records its call: the launcher must not run the toolchain, even if it is installed.
 printf '#!/bin/sh\n: >"%s"\n' "$work/proved" >"$work/bin/rt"
 "$(PATH=$every_path command -v chmod)" +x "$work/bin/rt"
 
@@ -27,8 +28,8 @@ fail() {
     exit 1
 }
 
-# Runs a command that must exit with STATUS. Its output is written to $work/out, and its messages to $work/messages:
-# expect_status STATUS COMMAND ARGUMENT ..
+# Runs a command that must exit with STATUS, with the log on its standard input. Writes its output to $work/out, and its
+# messages to $work/messages: expect_status STATUS COMMAND ARGUMENT ..
 expect_status() {
     local wanted=$1 status=0
     shift
@@ -36,14 +37,15 @@ expect_status() {
     [ "$status" = "$wanted" ] || fail "$*: exit status $status, expected $wanted: $(<"$work/messages")"
 }
 
-# Checks that a command replays the log and prints no message: check_replay COMMAND
+# Checks that a command replays the log, and prints no message: check_replay COMMAND ..
 check_replay() {
     expect_status 0 "$@" replay
     [ "$(<"$work/out")" = "$(<"$log")" ] || fail "$* does not replay"
     [ ! -s "$work/messages" ] || fail "$* printed: $(<"$work/messages")"
 }
 
-# Checks that the log is replayed, and that a message asks to build the program again: check_stale_message CAUSE
+# Checks that ./hidlog replays the log, but also prints that the program is older than the sources and must be built
+# again. CHANGE is what has changed in the sources: check_stale_message CHANGE
 check_stale_message() {
     expect_status 0 "$copy/hidlog" replay
     [ "$(<"$work/out")" = "$(<"$log")" ] || fail "$1: it does not replay"
@@ -58,7 +60,8 @@ check_replay "$work/link"
 (cd "$copy" && check_replay ./hidlog && check_replay sh hidlog)
 expect_status 2 "$copy/hidlog" frobnicate
 
-# A new file is detected, and so is a changed source, definition or proof, even if its modification time is old.
+# Check that the launcher detects a changed source, definition or proof, even if its modification time is old, and a new
+# file.
 PATH=$every_path
 changed=("$copy/crates/session_log/src/lib.rt")
 for kind in specs proofs; do
@@ -77,8 +80,8 @@ PATH=$work/bin check_stale_message "a new file"
 rm "$copy/crates/session_log/src/new.rt"
 [ ! -e "$work/proved" ] || fail "the launcher started a proof"
 
-# Commands of the Python package are run from the clone, not from modules in the current folder. Without Python, a
-# message is printed.
+# Check that commands of the Python package run the clone's modules, not modules in the current folder, and that a
+# message is printed without Python.
 if command -v python3 >/dev/null; then
     ln -s "$(python3 -c 'import sys; print(sys.executable)')" "$work/bin/python3"
     mkdir -p "$work/here/hidlog"

@@ -1,15 +1,16 @@
 #!/usr/bin/env bash
-# Checks names against docs/change/STYLE.md, and runs shellcheck, black, mypy --strict and tsc --strict. `untyped` lists
-# Python files that have no types yet, and `renaming` lists folders with old names. Both lists may only get shorter.
+# Checks names against docs/change/STYLE.md, and runs shellcheck, black, mypy --strict and tsc --strict. The variable
+# `untyped` lists Python files whose types are not checked yet, and `renaming` lists folders whose names are not checked
+# yet. Files and folders may be removed from both lists, but not added.
 set -euo pipefail
 cd "$(dirname "${BASH_SOURCE[0]}")/.."
-# Other versions of black format differently, and other versions of mypy report other errors.
+# Require these versions: other versions of black format differently, and other versions of mypy report other errors.
 for tool in "black 23" "mypy 1.0"; do
     [[ $(${tool% *} --version) = ${tool% *}*\ ${tool#* }.* ]] ||
         { echo "tests/lint.sh: ${tool% *} ${tool#* } (Debian 12's version) is required; nothing was run" >&2 && exit 3; }
 done
-# Finds variables called `it`, exception classes whose name does not end in Error (except those that are not errors),
-# and constants called _MOST.
+# Find variables called `it`, exception classes whose name does not end in Error (except those that are not errors), and
+# constants whose name has the word MOST.
 renaming='^tests/mutants/'
 sources=('*.py' '*.js' '*.mjs' '*.go' '*.rs' '*.c' '*.h' ':!bindings/web/dist' ':!release')
 pronoun='\bfor \(?(const )?it (in|of)\b|\blambda it\b|^\s*(const |let )?it :?= |\(it[,)]( =>|\.)|, it\) =>|func \(it\b'
@@ -25,20 +26,21 @@ named=$(grep -Ev "$renaming" <<<"$named" || true)
 mapfile -t shell < <(git ls-files -z -co --exclude-standard |
     xargs -0 awk 'FNR == 1 { if ($0 ~ /^#!.*[\/ ](ba)?sh$/) print FILENAME; nextfile }')
 shellcheck --severity=warning "${shell[@]}"
-# A command that stops reading early can end the writing command with SIGPIPE, which pipefail turns into a failure.
+# Find pipes into head, grep -q and grep -m. These stop reading early, so that the writing command may end with SIGPIPE,
+# and with pipefail the whole pipe fails.
 early=$(grep -l pipefail "${shell[@]}" | xargs grep -nE '[^|][|] *(head|grep -[a-zA-Z]*[qm])' || true)
 [ -z "$early" ] || { echo "FAILED: these commands stop reading a pipe early (use sed -n 1p):"; echo "$early"; exit 1; }
 mapfile -t python < <(git ls-files -co --exclude-standard '*.py')
 black --quiet --check --line-length 120 "${python[@]}"
 untyped='^(bench|examples|bindings/python/src|tests/(failing|fuzz|python|web))/'
 mapfile -t typed < <(printf '%s\n' "${python[@]}" | grep -Ev "$untyped")
-# mypy is called once per folder, since files in different folders may have the same name.
+# Call mypy once per folder, since it rejects two files with the same name, which different folders may have.
 printf '%s\n' "${typed[@]}" |
     awk '{ folder = $0; sub("[^/]*$", "", folder); files[folder] = files[folder] " " $0 }
         END { for (folder in files) print files[folder] }' |
     xargs -L 1 -P "$(nproc)" mypy --strict --no-error-summary --ignore-missing-imports \
     --follow-imports=silent --allow-untyped-calls --allow-subclassing-any
-# These packages are checked as a whole, since their modules import one another.
+# Check these packages as a whole, since their modules import one another.
 strict=(mypy --strict --no-error-summary --ignore-missing-imports --allow-untyped-calls --allow-subclassing-any)
 "${strict[@]}" bindings/python/src/hidlog
 MYPYPATH=bindings/python/src:tests/python "${strict[@]}" tests/python/*.py

@@ -1,8 +1,8 @@
 #!/usr/bin/env bash
-# Tests the Dockerfile without Docker: copies the image's files to a folder, and replays a log there with chroot. Tests
-# the GitHub action without GitHub: runs the commands of action.yml in a new environment, with a failing test whose
-# recording must be saved. Checks that action.yml and the workflows use no other GitHub action. Exits with 3 if nothing
-# could be run.
+# Tests what runs outside of this repository, in Docker and on GitHub, without either. For the Dockerfile, copies the
+# image's files to a folder, and checks a log there with chroot. For the GitHub action, runs the commands of action.yml
+# in a new environment, with a failing test whose recording must be saved. Also checks that action.yml and the workflows
+# use no other GitHub action. Exits with 3 if nothing could be run.
 set -euo pipefail
 top=$(cd "$(dirname "${BASH_SOURCE[0]}")/.." && pwd)
 work=$(mktemp -d)
@@ -15,7 +15,7 @@ fail() {
     exit 1
 }
 
-# Copies the image's files as the COPY lines of the Dockerfile specify.
+# Copies the files of the Docker image to a folder, as the COPY lines of the Dockerfile say.
 make_image() {
     local word words target
     mkdir "$work/image"
@@ -45,13 +45,13 @@ if [ "$(id -u)" = 0 ]; then
 fi
 
 ! grep -E '^ *(- )?uses: ' "$top/action.yml" "$top"/.github/workflows/*.yml || fail "action.yml or a workflow uses another action"
-# Only jobs that run in a Debian container may use apt-get.
+# Check that only workflows whose jobs run in a Debian container use apt-get.
 ! grep -q 'apt-get' "$top/action.yml" || fail "action.yml uses apt-get, but runs on any system"
 for workflow in "$top"/.github/workflows/*.yml; do
     ! grep -q 'apt-get' "$workflow" || grep -q 'container: debian:' "$workflow" || fail "$workflow uses apt-get outside a Debian container"
 done
 
-# Runs the action's last step, which writes a summary, and limits the summary to MAX_BYTES: write_summary MAX_BYTES
+# Runs the action's last step, which writes the recordings to a summary of at most MAX_BYTES: write_summary MAX_BYTES
 write_summary() {
     printf 'a snapshot' >"$HIDLOG_LOG_DIR/x.snapshot"
     : >"$work/summary"
@@ -60,15 +60,15 @@ write_summary() {
         fail "the action's step that writes the summary failed"
 }
 
-# Prints the commands of a step of the action: print_step CONDITION
+# Prints the shell commands of the first step in action.yml that meets a condition in Python: print_step CONDITION
 print_step() {
     /usr/bin/python3 -c "import sys, yaml
 steps = yaml.safe_load(open(sys.argv[1]))['runs']['steps']
 print(next(step['run'] for step in steps if $1))" "$top/action.yml"
 }
 
-# Runs the action's first step, which installs packages. pip may use only the wheels that were built here:
-# install_by_action VENV [REQUIREMENTS]
+# Runs the action's step that installs packages into a virtual environment. pip finds only the wheels that were built
+# here: install_by_action VENV [REQUIREMENTS]
 install_by_action() {
     rm -rf "$work/temp"
     mkdir -p "$work/temp"
@@ -78,13 +78,14 @@ install_by_action() {
         PIP_NO_DEPS=1 PIP_NO_INDEX=1 PIP_FIND_LINKS=$work/dist bash -e "$work/install.sh" >"$work/output" 2>&1
 }
 
-# Checks that the action installs packages only from its own checkout, or from a requirements file with hashes.
+# Checks that the action installs packages only from its own sources, or from a requirements file that has their hashes.
 check_hashes() {
     /usr/bin/python3 -m venv --without-pip "$work/bare" || fail "cannot create a virtual environment"
     print_step 'step.get("id") == "install"' >"$work/install.sh"
     ! install_by_action bare || fail "the action installs without cryptography"
     grep -q '^::error::the Python package cryptography is missing' "$work/output" || fail "unexpected message: $(cat "$work/output")"
-    # A requirements file that names the package hidlog itself.
+    # Use a requirements file that names the package hidlog itself: without a hash, with a wrong one, and with the right
+    # one.
     local wheel=("$work"/dist/*x86_64.whl) version
     version=$(sed -n 's/^version: //p' "$top/release/BUILD")
     echo "hidlog==$version" >"$work/requirements.txt"
@@ -133,4 +134,4 @@ END
     echo "tests/outside.sh: the action installs, and a failed test's recording is kept"
     ran=1
 fi
-[ "$ran" = 1 ] || { echo "tests/outside.sh: needs root, or Python's yaml, hatchling, venv, pytest and cryptography (tests/run --install); nothing was run" >&2; exit 3; }
+[ "$ran" = 1 ] || { echo "tests/outside.sh: root, or Python's yaml, hatchling, venv, pytest and cryptography (tests/run --install) are required; nothing was run" >&2; exit 3; }

@@ -1,9 +1,9 @@
 #!/usr/bin/env bash
-# Builds the packages twice, compares them byte for byte, and tests each package as it is used: runs the cases of
-# tests/program with the command of the tarball, the Debian packages, the wheel and the npm package; builds a C program
-# with the tarball and with the development package; loads the npm package in node; and runs lintian. Tools other than
-# dpkg-deb and Python are optional. packages_hold.py checks the contents; clients/languages.sh tests the Go and Rust
-# packages. Exits with 3 if dpkg-deb is missing.
+# Builds the packages twice, compares them byte for byte, and tests each as its users use it: runs the cases of
+# tests/program with the command hidlog of the tarball, the Debian packages, the wheel and the npm package; builds a C
+# program with the tarball and with libhidlog-dev; loads the npm package in node; and runs lintian. A part whose tool is
+# missing is skipped. packages_hold.py checks the packages' contents, and clients/languages.sh tests the Go and Rust
+# packages. Exits with 3 if dpkg-deb or Python is missing.
 set -euo pipefail
 top=$(cd "$(dirname "${BASH_SOURCE[0]}")/.." && pwd)
 for tool in dpkg-deb python3; do
@@ -18,13 +18,13 @@ fail() {
     exit 1
 }
 
-# Checks that a program replays the log: check_replay PROGRAM
+# Checks that a program accepts the log with its command check: check_replay PROGRAM
 check_replay() {
     "$1" check <"$log" >"$work/output" || fail "$1 does not replay $log"
     grep -q "^same " "$work/output" || fail "unexpected output of $1: $(cat "$work/output")"
 }
 
-# The second build starts a second later, so that its timestamps would differ.
+# Start the second build more than a second later, so that the packages differ if they contain the current time.
 "$top/packages/build.sh" "$work/first" >/dev/null &
 sleep 1.1
 "$top/packages/build.sh" "$work/second" >/dev/null
@@ -32,14 +32,14 @@ wait $! || fail "the first build failed"
 diff -r "$work/first" "$work/second" >/dev/null || fail "two builds differ"
 echo "tests/packages.sh: two builds are the same, byte for byte"
 
-# Runs the cases of tests/program with a command, in the background: run_cases NAME COMMAND [TEST ..]
+# Starts the cases of tests/program in the background, with the command of a package: run_cases NAME COMMAND [TEST ..]
 waiting=()
 run_cases() {
     python3 "$top/tests/program/cases.py" "${@:2}" >"$work/cases.$1" 2>&1 &
     waiting+=("$! $1")
 }
 
-# Checks that a program has the same bytes as release/hidlog, and replays the log: check_program PROGRAM
+# Checks that a program has the same bytes as release/hidlog, and accepts the log: check_program PROGRAM
 check_program() {
     cmp "$1" "$top/release/hidlog" || fail "$1 differs from release/hidlog"
     check_replay "$1"
@@ -49,7 +49,8 @@ tar -C "$work" -xzf "$work"/first/hidlog-*-linux-x86_64.tar.gz
 tarball=$(echo "$work"/hidlog-*)
 check_program "$tarball/bin/hidlog"
 run_cases tarball "$tarball/bin/hidlog"
-# Unpacks Debian packages into ROOT, and changes the path in /usr/bin/hidlog to ROOT: unpack_packages ROOT PACKAGE ..
+# Unpacks Debian packages into ROOT, and makes the script /usr/bin/hidlog there use the program in ROOT: unpack_packages
+# ROOT PACKAGE ..
 unpack_packages() {
     local package
     for package in "${@:2}"; do
@@ -73,7 +74,7 @@ if python3 -c 'import venv, ensurepip' 2>/dev/null; then
     "$work/venv/bin/pip" install --quiet --no-index --no-deps --disable-pip-version-check "$work"/first/*x86_64.whl
     run_cases wheel "$work/venv/bin/hidlog" test_cases_of_file test_log_outputs test_arguments_are_utf_8
 fi
-# Checks bash's completion of commands, options and paths: check_completion EXPECTED WORD ..
+# Checks that bash completes the last of these words to EXPECTED: check_completion EXPECTED WORD ..
 check_completion() {
     bash -c 'source "$1"; shift; want=$1; shift; COMP_WORDS=("$@"); COMP_CWORD=$(($# - 1)); _hidlog; [ "${COMPREPLY[*]}" = "$want" ]' \
         _ "$work/root/usr/share/bash-completion/completions/hidlog" "$@" || fail "bash does not complete ${*:2} to $1"
@@ -81,7 +82,7 @@ check_completion() {
 check_completion replay hidlog re
 check_completion --save hidlog live --s
 check_completion "$top/docs/use/hidlog.1" hidlog check --load "$top/docs/use/hidlog."
-# The development package's link points to the file of the library package.
+# libhidlog.so, a link in libhidlog-dev, must point to the file in libhidlog1.
 [ -s "$work/root/usr/lib/x86_64-linux-gnu/libhidlog.so" ] || fail "libhidlog.so is a dangling link"
 if command -v gcc >/dev/null; then
     if command -v pkg-config >/dev/null; then
@@ -93,13 +94,14 @@ if command -v gcc >/dev/null; then
     LD_LIBRARY_PATH=$work/root/usr/lib/x86_64-linux-gnu "$work/key" invalid-calls || fail "a program with the library fails"
     echo "tests/packages.sh: a C program was built with the development package"
 fi
-# Prints the summary of the log that a program shows on a terminal with 40 columns: print_summary_at_terminal PROGRAM
+# Prints what `show --summary` of a program prints for the log on a terminal with 40 columns: print_summary_at_terminal
+# PROGRAM
 print_summary_at_terminal() {
     COLUMNS=40 python3 -c 'import pty, sys; sys.exit(pty.spawn(sys.argv[1:]))' "$1" show --summary "$log" </dev/null
 }
 
-# Tests the packages for arm64 with a cross compiler and qemu: a C program that is built with the development package
-# replays a session.
+# Test the packages for arm64 with a cross compiler and qemu: build a C program with libhidlog-dev, which replays the
+# log, and run the program hidlog.
 if command -v aarch64-linux-gnu-gcc >/dev/null && command -v qemu-aarch64-static >/dev/null; then
     for package in "$work"/first/*_arm64.deb; do
         dpkg-deb -x "$package" "$work/arm64"
@@ -124,7 +126,7 @@ if command -v aarch64-linux-gnu-gcc >/dev/null && command -v qemu-aarch64-static
         echo "tests/packages.sh: the program for arm64 replays the worked logs in qemu"
     fi
 fi
-# Imports the npm package by name in a module, with `require`, and in TypeScript.
+# Test the npm package: import it by its name in a module, with `require` and in TypeScript, and run its command.
 if command -v node >/dev/null; then
     mkdir -p "$work/npm/node_modules/hidlog"
     tar -C "$work/npm/node_modules/hidlog" --strip-components=1 -xzf "$work"/first/hidlog-*.tgz
@@ -146,14 +148,15 @@ if command -v node >/dev/null; then
         fail "the results of the npm package differ"
     echo "tests/packages.sh: the npm package is loaded"
 fi
-# The commands and the help must be the same in all packages.
+# Check that the commands and the help texts of hidlog are the same in all packages.
 commands=("$work/plain/usr/bin/hidlog" "$work/python3-hidlog")
 [ ! -x "$work/venv/bin/hidlog" ] || commands+=("$work/venv/bin/hidlog")
 [ ! -d "$work/npm" ] || commands+=("$work/npm/node_modules/hidlog/cli.mjs")
 python3 "$top/tests/one_command.py" "${commands[@]}" || fail "the packages have different commands"
 python3 "$top/tests/packages_hold.py" "$work/first"
 "$top/tests/packages_signed.sh" "$work/first" || [ $? = 3 ] || fail "signing a release fails"
-# Checks systemd's exposure score of the unit, from 0 to 100. It would be 44 as root and without a system call filter.
+# Check how exposed the unit hidlog-uhid@ is: systemd-analyze gives it a score from 0 to 100, and fails above 19. As
+# root and without a system call filter, the score would be 44.
 if command -v systemd-analyze >/dev/null; then
     systemd-analyze security --no-pager --offline=yes --threshold=19 "$work/root/lib/systemd/system/hidlog-uhid@.service" \
         >"$work/output" || fail "the unit of hidlog-uhid is too exposed: $(tail -1 "$work/output")"
@@ -166,8 +169,8 @@ for run in "${waiting[@]}"; do
     echo "tests/packages.sh: the command of ${run#* }: $(tail -1 "$work/cases.${run#* }")"
 done
 if command -v lintian >/dev/null; then
-    # Ignored tags: the packages are not part of Debian, so they close no bug of Debian. They are built for Debian 12,
-    # whose lintian expects rules and units in /lib; Debian 13's lintian expects /usr/lib.
+    # Ignore two of lintian's tags: the packages are not part of Debian, so they close none of its bugs; and they are
+    # built for Debian 12, where udev rules and units are in /lib, while Debian 13's lintian expects them in /usr/lib.
     tags=initial-upload-closes-no-bugs
     ! lintian-explain-tags aliased-location >/dev/null 2>&1 || tags+=,aliased-location
     lintian --fail-on error,warning --suppress-tags "$tags" "$work"/first/*.deb || fail "lintian found problems"

@@ -14,8 +14,8 @@ fail() {
     exit 1
 }
 
-# Copies the packages, and marks them as built from a commit without changes, since no other packages are signed:
-# copy_packages FOLDER
+# Copies the packages to the folder $made, and marks them as built from a commit without changes, since sign.sh rejects
+# others: copy_packages FOLDER
 copy_packages() {
     rm -rf "$made"
     cp -r "$1" "$made"
@@ -29,21 +29,22 @@ sign() {
     "$top/packages/sign.sh" "$work/$1" "$made" "$work/signers" >"$work/output" 2>&1
 }
 
-# Expects that sign.sh refuses to sign, with a message: expect_signing_refused KEY TEXT MESSAGE
+# Checks that sign.sh fails with a message, and writes no signature: expect_signing_refused KEY CASE MESSAGE
 expect_signing_refused() {
     ! sign "$1" || fail "sign.sh signs $2"
     grep -q "$3" "$work/output" || fail "sign.sh, $2: unexpected message: $(cat "$work/output")"
     [ ! -e "$made/SHA256SUMS.sig" ] && [ ! -e "$made/$provenance.sig" ] || fail "signature files remain after signing $2"
 }
 
-# Verifies the packages with the commands of the README.
+# Verifies the signed packages with the commands that the README gives.
 verify_packages() {
     (cd "$made" && ssh-keygen -Y verify -f "$work/signers" -I cogtzil -n hidlog-release -s SHA256SUMS.sig <SHA256SUMS &&
         ssh-keygen -Y verify -f "$work/signers" -I cogtzil -n hidlog-release -s "$provenance.sig" <"$provenance" &&
         sha256sum --check --strict --ignore-missing SHA256SUMS) >"$work/output" 2>&1
 }
 
-# Expects that the changed packages are not valid, and then signs a new copy of the packages: expect_invalid TEXT
+# Checks that the packages, which have been changed, are rejected. Then signs a new copy of the packages: expect_invalid
+# CASE
 expect_invalid() {
     ! verify_packages || fail "$1 is accepted"
     copy_packages "$packages"
@@ -56,7 +57,7 @@ for name in maintainer other; do
 done
 echo "cogtzil namespaces=\"hidlog-release\" $(cat "$work/maintainer.pub")" >"$work/signers"
 
-# Packages that packages/sign.sh must not sign.
+# Packages that sign.sh must reject.
 copy_packages "$packages"
 expect_signing_refused other "with a key that isn't listed" "is not a key in signers"
 expect_signing_refused missing "without a key" "cannot sign"
@@ -77,7 +78,7 @@ expect_signing_refused maintainer "packages of changed sources" "were not built 
 rm "$made/$provenance"
 ! sign maintainer || fail "sign.sh signs without a provenance"
 
-# Signed packages that are changed after signing.
+# Signed packages that are changed afterwards, which the README's commands must reject.
 copy_packages "$packages"
 sign maintainer || fail "$(cat "$work/output")"
 verify_packages || fail "the signatures are not valid: $(cat "$work/output")"

@@ -1,10 +1,13 @@
 #!/usr/bin/env bash
-# Follows each section of README.md as a new user would: in a Debian 12 that debootstrap installs, as a user with sudo
-# and a clone, runs the ```sh blocks of "Get the packages" and of the section, and compares their output with the
-# ```text block after each. Prints the time of each section in seconds, including the download of Debian's packages.
+# Tests that the sections of README.md work for a new user, who has Debian 12, sudo and a clone. For each section, runs
+# the
+# ```sh blocks of "Get the packages" and of the section in a copy of a Debian system, and compares the output of each
+# with the ```text block after it. Prints the time of each section in seconds, including the download of Debian's
+# packages.
 #
-#     tests/readme_ways.sh FOLDER [SECTION ..]  FOLDER is created by debootstrap or reused; SECTION is part of a heading
+#     tests/readme_ways.sh FOLDER [SECTION ..]        SECTION is part of a section's heading [default: all sections]
 #
+# FOLDER is the root of the Debian system. If it does not exist, debootstrap installs the base system there.
 # Needs root, debootstrap and a Debian mirror. Exits with 3 if one of these is missing, and with 1 if a section fails or
 # takes more than ten minutes.
 set -euo pipefail
@@ -14,7 +17,8 @@ shift
 [ "$(id -u)" = 0 ] || { echo "tests/readme_ways.sh: debootstrap needs root; nothing was run" >&2 && exit 3; }
 [ -d "$folder/usr" ] || debootstrap --variant=minbase bookworm "$folder" >"${folder%/}.log" || exit 3
 work=$(mktemp -d)
-# Unmounts the file systems, even if a program still uses them, and removes only files of this file system.
+# Unmounts /proc and /dev of the copied system, even if a program still uses them, and removes the copy. If one is still
+# mounted, does not remove files in it.
 clean_up() {
     umount -l "$work/system/proc" "$work/system/dev/shm" "$work/system/dev" 2>/dev/null || true
     rm -rf --one-file-system "$work"
@@ -22,7 +26,8 @@ clean_up() {
 trap clean_up EXIT
 failed=0
 
-# Installs what the README assumes: sudo, /etc/hosts, a clone of the repository, and a user: prepare_system SYSTEM
+# Copies the Debian system to SYSTEM, and adds what the README assumes: sudo, /etc/hosts, a user, and a clone of the
+# repository: prepare_system SYSTEM
 prepare_system() {
     local system=$1
     cp -a "$folder" "$system"
@@ -40,7 +45,8 @@ prepare_system() {
     chroot "$system" chown -R tester:tester /home/tester
 }
 
-# Writes the ```sh blocks of a section, and their expected outputs, to files: extract_blocks HEADING FOLDER
+# Writes the ```sh blocks of a section of the README, and their expected outputs, to files in FOLDER: extract_blocks
+# HEADING FOLDER
 extract_blocks() {
     awk -v heading="## $1" -v folder="$2" '
         /^## / { is_on = ($0 == heading) }
@@ -50,12 +56,13 @@ extract_blocks() {
         into != "" { print >into }' "$top/README.md"
 }
 
-# Runs the blocks of a folder as the user, and compares the output of each: run_blocks SYSTEM FOLDER
+# Runs the blocks in FOLDER as the user tester, and compares the output of each with the expected one: run_blocks SYSTEM
+# FOLDER
 run_blocks() {
     local system=$1 block text
     for block in "$2"/*.sh; do
         cp "$block" "$system/home/tester/block.sh"
-        # Processes that a block leaves running are killed when the block ends.
+        # unshare kills the processes that a block has started in the background when the block ends.
         unshare --pid --fork --kill-child --mount-proc="$system/proc" \
             chroot --userspec=tester --groups=tester "$system" /usr/bin/env -i PATH=/usr/bin:/bin HOME=/home/tester \
             LANG=C.UTF-8 DEBIAN_FRONTEND=noninteractive bash -c 'cd ~/cogtzil && set -e && source ~/block.sh' \
@@ -65,7 +72,7 @@ run_blocks() {
     done
 }
 
-# Follows one section: follow_section HEADING
+# Tests one section of the README, and prints the result and the time: follow_section HEADING
 follow_section() {
     local system=$work/system began status=ok
     mkdir -p "$work/get" "$work/section"
@@ -85,7 +92,7 @@ follow_section() {
     rm -rf --one-file-system "$system" "$work/section" "$work/get"
 }
 
-# Select the sections from "A test in Python" up to the one before "What browsers ..".
+# Test the sections from "A test in Python" to the last one before "What browsers ..".
 while read -r heading; do
     wanted=
     [ $# != 0 ] || wanted=yes

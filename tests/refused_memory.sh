@@ -1,10 +1,10 @@
 #!/usr/bin/env bash
-# Runs the libraries' tests COUNT times, and lets the Nth allocation of each test fail in the Nth run:
-# tests/refused_memory.sh [COUNT] [default: 12]. Needs rt and Python 3.
+# Tests how the libraries handle failed memory allocations: runs their tests COUNT times [default: 12], and in the Nth
+# run makes the Nth allocation of each test fail: tests/refused_memory.sh [COUNT]. Needs rt and Python 3.
 #
-# Exits with 0 if a failed allocation changes only the result, and with 1 otherwise. A test whose allocation fails may
-# fail only with the allocation error. Tests named `*_after_refused_memory` repeat the call and must pass. The results
-# of the program's tests are ignored, since these compare its exit status.
+# A test whose allocation fails may fail, but only with the allocation error. Tests named `*_after_refused_memory`
+# repeat the failed call, and must pass. Exits with 1 if a test does not meet this. Ignores the results of the program's
+# tests, since these compare its exit status.
 set -u
 cd "$(dirname "$0")/.." || exit 2
 work=$(mktemp -d)

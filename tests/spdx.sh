@@ -1,9 +1,9 @@
 #!/usr/bin/env bash
-# Validates the packages' SPDX document with SPDX's tools-golang, which is in Debian since trixie. The validator must
-# also reject five invalid documents: tests/spdx.sh CACHE
+# Validates the SPDX document that packages/build.sh writes, with the Go library tools-golang of the SPDX project. The
+# library must also reject five invalid documents: tests/spdx.sh CACHE
 #
-# The packages of trixie are downloaded and unpacked in CACHE, but not installed. HIDLOG_OFFLINE=1 prevents downloads.
-# Exits with 3 if a dependency is missing.
+# Debian has the library since trixie. Its packages are downloaded to CACHE and unpacked there, but not installed; with
+# HIDLOG_OFFLINE=1, nothing is downloaded. Exits with 3 if a dependency is missing.
 set -euo pipefail
 top=$(cd "$(dirname "${BASH_SOURCE[0]}")/.." && pwd)
 mkdir -p "${1:?usage: tests/spdx.sh CACHE}"
@@ -14,7 +14,7 @@ command -v go >/dev/null || { echo "tests/spdx.sh: go is missing (apt-get instal
 packages=(golang-github-spdx-tools-golang-dev golang-github-spdx-gordf-dev golang-github-anchore-go-struct-converter-dev
     golang-k8s-sigs-yaml-dev golang-github-google-go-cmp-dev)
 
-# Downloads packages of trixie with apt-get, whose directories are in CACHE.
+# Downloads the packages from Debian's trixie with apt-get, which uses only directories in CACHE.
 download() {
     local options=(-o "Dir::Etc::sourcelist=$cache/sources.list" -o Dir::Etc::sourceparts=/dev/null
         -o "Dir::State::lists=$cache/lists" -o "Dir::Cache=$cache" -o APT::Sandbox::User=root)
@@ -65,7 +65,7 @@ GO111MODULE=off GOPATH=$cache/root/usr/share/gocode GOCACHE=$work/go go build -o
 list=$(echo "$work"/made/*.spdx.json)
 "$work/validator" <"$list"
 
-# Checks that the validator rejects the document after a change by a sed expression: expect_rejected SED
+# Changes the document with a sed expression, and checks that the validator rejects it: expect_rejected SED_EXPRESSION
 expect_rejected() {
     sed "$1" "$list" >"$work/wrong"
     ! cmp -s "$list" "$work/wrong" || { echo "$1 changes nothing" && exit 1; }

@@ -1,11 +1,11 @@
 #!/usr/bin/env bash
-# Tests the libraries: results that no clause of a contract specifies, and calls at their limits. The tests in
-# tests/unit/ run as a separate crate in a copy of the libraries, without proofs (rt try), so that they do not slow down
-# `rt ci`. The time limit of each test is fifteen minutes, since other programs may be running. Exits with 3 if rt is
+# Runs the tests in tests/unit/ of the library crates: results that no contract specifies, and calls with extreme
+# arguments. They run as a separate crate in a copy of the libraries, without proofs (rt try), so that they do not slow
+# down `rt ci`. The time limit of each test is fifteen minutes, since the machine may be busy. Exits with 3 if rt is
 # missing.
 #
 #     tests/unit.sh                   runs all tests
-#     tests/unit.sh --fail-alloc N    fails the Nth allocation of each test, and prints the results
+#     tests/unit.sh --fail-alloc N    runs all tests, makes the Nth allocation of each fail, and prints the results
 set -euo pipefail
 top=$(cd "$(dirname "${BASH_SOURCE[0]}")/.." && pwd)
 command -v rt >/dev/null || { echo "tests/unit.sh: rt is missing; nothing was run" && exit 3; }

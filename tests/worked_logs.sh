@@ -1,7 +1,9 @@
 #!/usr/bin/env bash
-# Tests a program with the worked logs: tests/worked_logs.sh PROGRAM. Each log must equal its own replay and pass
-# `check`, and the output of `live` must equal its own replay. At the end, mutate_worked_logs.py changes packets of the
-# logs, and `check` must find each change.
+# Tests a build of the program hidlog with the worked logs, whose packets were worked out from the standard by hand, and
+# with recorded logs. `replay` must write each log unchanged, and `check` must accept it; `replay` must also write the
+# output of `live` unchanged. Then mutate_worked_logs.py changes packets of logs, and `check` must find each change.
+#
+#     tests/worked_logs.sh PROGRAM
 set -euo pipefail
 program=$(realpath "$1")
 cd "$(dirname "${BASH_SOURCE[0]}")/.."
@@ -9,7 +11,7 @@ work=$(mktemp -d)
 trap 'rm -rf "$work"' EXIT
 count=0
 
-# Tests the program with a log: check_log LOG OPTION ..
+# Tests the program with one log, and with these options, such as --load: check_log LOG OPTION ..
 check_log() {
     local log=$1
     shift

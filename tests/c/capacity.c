@@ -1,6 +1,8 @@
-// Fills a key up to its capacity, saves a snapshot, initializes a key with the snapshot, and signs in. The expected
-// bytes are written by hand from CTAP 2.1, sections 6.1.2 (0x28, CTAP2_ERR_KEY_STORE_FULL), 6.2.2 (numberOfCredentials)
-// and 11.2 (USB HID framing). Usage: capacity CAPACITY
+// Tests a key that is full: adds CAPACITY credentials, expects that no more can be added or registered, saves a
+// snapshot, initializes another key with the snapshot, and signs in. The expected bytes are written by hand from CTAP
+// 2.1, sections 6.1.2 (0x28, CTAP2_ERR_KEY_STORE_FULL), 6.2.2 (numberOfCredentials) and 11.2 (USB HID framing).
+//
+//     capacity CAPACITY
 #include "hidlog.h"
 
 #include <inttypes.h>
@@ -15,9 +17,9 @@ static const uint8_t rp_hash[32] = {0xa3, 0x79, 0xa6, 0xf6, 0xee, 0xaf, 0xb9, 0x
                                     0x11, 0x80, 0x34, 0xe2, 0x75, 0x1e, 0x68, 0x2f, 0xab, 0x9f, 0x2d,
                                     0x30, 0xab, 0x13, 0xd2, 0x12, 0x55, 0x86, 0xce, 0x19, 0x47};
 
-static void expect(int64_t found, int64_t expected, const char *what) {
+static void expect(int64_t found, int64_t expected, const char *value_name) {
     if (found != expected) {
-        fprintf(stderr, "capacity: %s is %" PRId64 ", expected %" PRId64 "\n", what, found, expected);
+        fprintf(stderr, "capacity: %s is %" PRId64 ", expected %" PRId64 "\n", value_name, found, expected);
         exit(1);
     }
 }
@@ -37,7 +39,8 @@ static struct hidlog_credential make_credential(size_t number) {
     return made;
 }
 
-// Sends a message on a channel, provides what the key needs, skips KEEPALIVEs, and returns the length of the response.
+// Sends a message on a channel, provides what the key needs, and copies the data of the response message to `response`.
+// Returns the length of the data. Skips KEEPALIVEs.
 static size_t exchange(struct hidlog_key *key, uint32_t channel, uint8_t command, const uint8_t *message, size_t len,
                        uint8_t *response) {
     uint8_t packet[64] = {(uint8_t)(channel >> 24),
@@ -58,18 +61,18 @@ static size_t exchange(struct hidlog_key *key, uint32_t channel, uint8_t command
         hidlog_key_write_packet(key, TIME_MS, packet);
         sent += part;
     }
-    size_t held = 0, whole = 0;
+    size_t received = 0, response_len = 0;
     struct hidlog_need need;
     do {
         while (hidlog_key_queued_packets(key) > 0) {
             hidlog_key_read_packet(key, packet);
             if (packet[4] == command) {
-                whole = (size_t)packet[5] << 8 | packet[6];
+                response_len = (size_t)packet[5] << 8 | packet[6];
                 memcpy(response, packet + 7, INITIALIZATION_DATA);
-                held = INITIALIZATION_DATA;
+                received = INITIALIZATION_DATA;
             } else if (packet[4] < 128) {
-                memcpy(response + held, packet + 5, CONTINUATION_DATA);
-                held += CONTINUATION_DATA;
+                memcpy(response + received, packet + 5, CONTINUATION_DATA);
+                received += CONTINUATION_DATA;
             }
         }
         int32_t kind = hidlog_key_get_need(key, &need);
@@ -81,7 +84,7 @@ static size_t exchange(struct hidlog_key *key, uint32_t channel, uint8_t command
             expect(kind, HIDLOG_NEED_NONE, "the kind of need");
         }
     } while (hidlog_key_queued_packets(key) > 0);
-    return whole;
+    return response_len;
 }
 
 static uint32_t open_channel(struct hidlog_key *key) {
@@ -91,7 +94,8 @@ static uint32_t open_channel(struct hidlog_key *key) {
     return (uint32_t)response[8] << 24 | (uint32_t)response[9] << 16 | (uint32_t)response[10] << 8 | response[11];
 }
 
-// Expects that registering a discoverable credential for a further user returns 0x28 (CTAP2_ERR_KEY_STORE_FULL).
+// Registers a discoverable credential for one more user on a full key, and expects the status 0x28
+// (CTAP2_ERR_KEY_STORE_FULL).
 static void expect_key_store_full(struct hidlog_key *key) {
     uint8_t message[91] = {1, 0xa5, 1, 0x58, 0x20}, response[7700];
     static const uint8_t rest[] = "\x02\xa1\x62id\x6b"
@@ -105,8 +109,8 @@ static void expect_key_store_full(struct hidlog_key *key) {
     expect(response[0], 0x28, "the status of a registration on a full key");
 }
 
-// Expects that a sign-in without an allow list finds all credentials: numberOfCredentials is the last member of the
-// response, with the key 5.
+// Signs in without an allowList, and expects that all credentials match: numberOfCredentials, the last member of the
+// response's map (key 5), is the capacity.
 static void expect_all_credentials(struct hidlog_key *key, size_t capacity) {
     uint8_t message[50] = {2, 0xa2, 1, 0x6b, 'e', 'x', 'a', 'm', 'p', 'l', 'e', '.', 'c', 'o', 'm', 2, 0x58, 0x20};
     uint8_t response[7700];

@@ -1,6 +1,7 @@
-// Tests the codes of hidlog_key_cause that causes.c does not test, each in a session of its own. The expected values
-// are written by hand from CTAP 2.1. Two codes are not tested: HIDLOG_CAUSE_NO_CHANNEL_LEFT needs more than 4 billion
-// INITs, and HIDLOG_CAUSE_EMPTY_REQUEST cannot be reached by packets. Prints nothing and returns 0 on success.
+// Tests the cause codes of hidlog_key_cause that causes.c does not test, each in a session of its own: after the last
+// event, the key must report this cause. The expected values are written by hand from CTAP 2.1. Two codes are not
+// tested: HIDLOG_CAUSE_NO_CHANNEL_LEFT needs more than 4 billion INITs, and no packets lead to
+// HIDLOG_CAUSE_EMPTY_REQUEST. Prints nothing and returns 0 on success.
 #include "hidlog.h"
 
 #include <inttypes.h>
@@ -13,8 +14,8 @@
 #define USER_ENTITY "a16269644101"
 #define OTHER_USER "a16269644102"
 #define ES256_PARAMETER "81a263616c672664747970656a7075626c69632d6b6579"
-// A request of authenticatorMakeCredential. `head` is the head of the parameter map, `user` the user entity, and `more`
-// the encoded parameters after pubKeyCredParams.
+// A request authenticatorMakeCredential, in hexadecimal. `head` is the CBOR head of the parameter map, `user` the user
+// entity, and `more` the parameters after pubKeyCredParams.
 #define MAKE_CREDENTIAL(head, user, more)                                                                              \
     "01" head "015820" CLIENT_DATA_HASH "02" RP_ENTITY "03" user "04" ES256_PARAMETER more
 #define DISCOVERABLE "07a162726bf5"
@@ -22,11 +23,12 @@
 #define ALLOW_LIST "81a26269645820" CREDENTIAL_ID "64747970656a7075626c69632d6b6579"
 #define GET_ASSERTION "02a2016b6578616d706c652e636f6d025820" CLIENT_DATA_HASH
 
-// An event of a session: a packet, a CTAPHID_CBOR message, a reply of the caller, or filling the key with credentials.
+// What happens in a session: the host sends a packet or a CTAPHID_CBOR message; the caller provides user presence, a
+// key pair or a signature, or refuses to (NO_KEY_PAIR, NO_SIGNATURE); or the key is filled with credentials (STORE).
 enum kind { END, PACKET, CBOR, PRESENCE, KEY_PAIR, NO_KEY_PAIR, SIGNATURE, NO_SIGNATURE, STORE };
 struct event {
     enum kind kind;
-    uint64_t at;
+    uint64_t time_ms;
     uint32_t value; // the channel, the presence, each byte of the credential ID, or each signature counter
     const char *digits;
 };
@@ -36,8 +38,8 @@ struct session {
     struct event events[12];
 };
 
-// CHANNELS allocates channels 1 and 2. REGISTRATION registers a discoverable credential for example.com, with `id` as
-// each byte of its ID. For 0xab, the ID is CREDENTIAL_ID.
+// Events that most sessions have. CHANNELS allocates channels 1 and 2. REGISTRATION registers a discoverable credential
+// for example.com; each byte of its ID is `id`. If `id` is 0xab, the ID is CREDENTIAL_ID.
 #define CHANNELS                                                                                                       \
     {PACKET, 1, 0xffffffff, "86000800010203040506"}, {                                                                 \
         PACKET, 2, 0xffffffff, "86000800010203040506"                                                                  \
@@ -140,9 +142,9 @@ static const struct session sessions[] = {
 
 static size_t session_index;
 
-static void expect(int is_so, const char *what) {
-    if (!is_so) {
-        fprintf(stderr, "cause_codes: session %zu: %s\n", session_index, what);
+static void expect(int is_met, const char *failure) {
+    if (!is_met) {
+        fprintf(stderr, "cause_codes: session %zu: %s\n", session_index, failure);
         exit(1);
     }
 }
@@ -162,10 +164,11 @@ static void send_packet(struct hidlog_key *key, const struct event *event, const
     uint8_t packet[64] = {(uint8_t)(event->value >> 24), (uint8_t)(event->value >> 16), (uint8_t)(event->value >> 8),
                           (uint8_t)event->value};
     memcpy(packet + 4, bytes, len);
-    expect(hidlog_key_write_packet(key, event->at, packet) >= 0, "hidlog_key_write_packet failed");
+    expect(hidlog_key_write_packet(key, event->time_ms, packet) >= 0, "hidlog_key_write_packet failed");
 }
 
-// Sends a message in an initialization packet with up to 57 bytes, and continuation packets with up to 59 bytes.
+// Sends a CTAPHID_CBOR message: an initialization packet with up to 57 bytes of data, and continuation packets with up
+// to 59 bytes each.
 static void send_message(struct hidlog_key *key, const struct event *event) {
     uint8_t data[512], part[60];
     size_t len = parse_hex(event->digits, data, sizeof data), sent = len < 57 ? len : 57;
@@ -183,7 +186,7 @@ static void send_message(struct hidlog_key *key, const struct event *event) {
     }
 }
 
-// Fills the key with discoverable credentials of example.com.
+// Fills the key to its capacity with discoverable credentials of example.com.
 static void fill_key(struct hidlog_key *key, uint32_t sign_count) {
     // SHA-256 of "example.com", computed with sha256sum.
     static const char hash[] = "a379a6f6eeafb9a55e378c118034e2751e682fab9f2d30ab13d2125586ce1947";
@@ -196,7 +199,7 @@ static void fill_key(struct hidlog_key *key, uint32_t sign_count) {
     }
 }
 
-static void play_event(struct hidlog_key *key, const struct event *event) {
+static void handle_event(struct hidlog_key *key, const struct event *event) {
     uint8_t bytes[64] = {1}, id[32];
     memset(id, (int)event->value, sizeof id);
     switch (event->kind) {
@@ -207,20 +210,21 @@ static void play_event(struct hidlog_key *key, const struct event *event) {
         send_message(key, event);
         break;
     case PRESENCE:
-        expect(hidlog_key_provide_presence(key, event->at, event->value) >= 0, "hidlog_key_provide_presence failed");
+        expect(hidlog_key_provide_presence(key, event->time_ms, event->value) >= 0,
+               "hidlog_key_provide_presence failed");
         break;
     case KEY_PAIR:
-        expect(hidlog_key_provide_key_pair(key, event->at, id, bytes, bytes) >= 0,
+        expect(hidlog_key_provide_key_pair(key, event->time_ms, id, bytes, bytes) >= 0,
                "hidlog_key_provide_key_pair failed");
         break;
     case NO_KEY_PAIR:
-        expect(hidlog_key_refuse_key_pair(key, event->at) >= 0, "hidlog_key_refuse_key_pair failed");
+        expect(hidlog_key_refuse_key_pair(key, event->time_ms) >= 0, "hidlog_key_refuse_key_pair failed");
         break;
     case SIGNATURE:
-        expect(hidlog_key_provide_signature(key, event->at, bytes, 1) >= 0, "hidlog_key_provide_signature failed");
+        expect(hidlog_key_provide_signature(key, event->time_ms, bytes, 1) >= 0, "hidlog_key_provide_signature failed");
         break;
     case NO_SIGNATURE:
-        expect(hidlog_key_refuse_signature(key, event->at) >= 0, "hidlog_key_refuse_signature failed");
+        expect(hidlog_key_refuse_signature(key, event->time_ms) >= 0, "hidlog_key_refuse_signature failed");
         break;
     case STORE:
         fill_key(key, event->value);
@@ -237,9 +241,10 @@ static void expect_cause(struct hidlog_key *key, const struct hidlog_cause *expe
     expect(len >= 0 && (len > 0) == (expected->code != 0), "expected a sentence if and only if there is a cause");
     if (cause.code != expected->code || cause.status != expected->status || cause.first != expected->first ||
         cause.second != expected->second) {
-        fprintf(stderr, "got code %" PRIu32 ", status %" PRIu32 ", %" PRIu64 ", %" PRIu64 ": %.*s\n", cause.code,
-                cause.status, cause.first, cause.second, (int)len, (const char *)text);
-        expect(0, "this is not the expected cause");
+        fprintf(stderr,
+                "cause_codes: got code %" PRIu32 ", status %" PRIu32 ", values %" PRIu64 " and %" PRIu64 ": %.*s\n",
+                cause.code, cause.status, cause.first, cause.second, (int)len, (const char *)text);
+        expect(0, "the cause is not the one that the table has for this session");
     }
 }
 
@@ -254,7 +259,7 @@ int main(void) {
         expect(hidlog_key_init(&key, aaguid, 0, aaguid, 0) == 0, "hidlog_key_init failed");
         for (; event->kind != END; event++) {
             uint8_t packet[64];
-            play_event(&key, event);
+            handle_event(&key, event);
             expect_cause(&key, event[1].kind == END ? &sessions[session_index].cause : &none);
             while (hidlog_key_queued_packets(&key) > 0) {
                 expect(hidlog_key_read_packet(&key, packet) >= 0, "hidlog_key_read_packet failed");

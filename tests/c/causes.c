@@ -1,5 +1,5 @@
-// Tests hidlog_key_cause with rejected inputs: the code, the status, the compared values (`first` and
-// `second`) and the sentence. The expected values are written by hand; statuses and limits are those of CTAP 2.1.
+// Tests what hidlog_key_cause returns after packets that the key rejects: the code, the status, the values `first` and
+// `second`, and the sentence. The expected values are written by hand; statuses and limits are those of CTAP 2.1.
 // Prints nothing and returns 0 on success.
 #include "hidlog.h"
 
@@ -8,11 +8,11 @@
 #include <stdlib.h>
 #include <string.h>
 
-// The first bytes of a packet (zeros follow), its timestamp, and the expected cause. The code is 0 if the packet is not
-// rejected.
+// A packet, whose first bytes are `digits` in hexadecimal (zeros follow), and the cause that is expected after it. The
+// cause's code is 0 if the key does not reject the packet.
 struct step {
     const char *digits;
-    uint64_t at;
+    uint64_t time_ms;
     struct hidlog_cause cause;
     const char *sentence;
 };
@@ -46,7 +46,10 @@ static const struct step steps[] = {
      13,
      {HIDLOG_CAUSE_WRONG_TYPE, 0x11, 0, 0},
      "a parameter, or a member in one, has the wrong CBOR type"},
-    {"0000000190000108", 14, {HIDLOG_CAUSE_NOTHING_PENDING, 0x30, 0, 0}, "no assertion is pending: none was left by an authenticatorGetAssertion before"},
+    {"0000000190000108",
+     14,
+     {HIDLOG_CAUSE_NOTHING_PENDING, 0x30, 0, 0},
+     "no assertion is pending: none was left by an authenticatorGetAssertion before"},
     {"0000000190000107",
      10001,
      {HIDLOG_CAUSE_RESET_TOO_LATE, 0x30, 0, 10001},
@@ -54,9 +57,9 @@ static const struct step steps[] = {
     {"0000000190000104", 10002, {0}, ""},
 };
 
-static void expect(int holds, const char *what) {
-    if (!holds) {
-        fprintf(stderr, "causes: %s\n", what);
+static void expect(int is_met, const char *failure) {
+    if (!is_met) {
+        fprintf(stderr, "causes: %s\n", failure);
         exit(1);
     }
 }
@@ -77,7 +80,8 @@ static void discard_packets(struct hidlog_key *key) {
     }
 }
 
-// Expects the cause of a timeout (`which` is 0) or of the last input (`which` is 1).
+// Expects that hidlog_key_cause returns this cause and this sentence, for a timeout before the last input if `which` is
+// 0, or for the last input itself if `which` is 1.
 static void expect_cause(struct hidlog_key *key, uint32_t which, const struct hidlog_cause *expected,
                          const char *sentence) {
     struct hidlog_cause cause = {0};
@@ -87,14 +91,14 @@ static void expect_cause(struct hidlog_key *key, uint32_t which, const struct hi
         cause.code != expected->code || cause.status != expected->status || cause.first != expected->first ||
         cause.second != expected->second) {
         fprintf(stderr,
-                "causes: unexpected cause: %d bytes, code %" PRIu32 ", status %" PRIu32 ", %" PRIu64 ", %" PRIu64
-                ": %.*s; expected:\n", len,
-                cause.code, cause.status, cause.first, cause.second, len > 0 ? (int)len : 0, text);
+                "causes: got %d, code %" PRIu32 ", status %" PRIu32 ", values %" PRIu64 " and %" PRIu64
+                ": %.*s; expected:\n",
+                len, cause.code, cause.status, cause.first, cause.second, len > 0 ? (int)len : 0, text);
         expect(0, sentence);
     }
 }
 
-// The cause of a timeout is separate from the cause of the input that triggers the timeout.
+// Tests that a tick that lets a message time out has a cause for the timeout, and none for the tick itself.
 static void test_timeout(struct hidlog_key *key) {
     static const struct hidlog_cause none, late = {HIDLOG_CAUSE_TIMED_OUT, 0x05, 20000, 20500};
     uint8_t packet[64];
@@ -116,7 +120,7 @@ static void test_invalid_calls(struct hidlog_key *key) {
     expect(hidlog_key_write_packet(key, 20600, packet) == 1, "expected one packet in response to getNextAssertion");
     discard_packets(key);
     expect(hidlog_key_cause(key, 2, &cause, text, sizeof text) == HIDLOG_KEY_ERR_INVALID_ARGUMENT && cause.code == 1,
-         "expected an error and an unchanged cause if `which` is 2");
+           "expected an error and an unchanged cause if `which` is 2");
     expect(hidlog_key_cause(key, 1, &cause, text, sizeof text) == 5 && memcmp(text, "no as", 5) == 0,
            "expected the first 5 bytes of the sentence");
     expect(hidlog_key_cause(key, 1, &cause, text, 0) == 0 && cause.code == HIDLOG_CAUSE_NOTHING_PENDING,
@@ -139,7 +143,7 @@ int main(void) {
     for (size_t i = 0; i < sizeof steps / sizeof steps[0]; i++) {
         uint8_t packet[64];
         parse_packet(steps[i].digits, packet);
-        expect(hidlog_key_write_packet(&key, steps[i].at, packet) >= 0, steps[i].digits);
+        expect(hidlog_key_write_packet(&key, steps[i].time_ms, packet) >= 0, steps[i].digits);
         expect_cause(&key, 1, &steps[i].cause, steps[i].sentence);
         expect_cause(&key, 0, &none, "");
         discard_packets(&key);

@@ -1,4 +1,6 @@
-/* Tests the commands of libhidlog with the worked logs in FOLDER. Usage: commands FOLDER */
+/* Tests the command functions of hidlog.h, such as hidlog_replay, with the worked logs in FOLDER.
+ *
+ *     commands FOLDER */
 #include "hidlog.h"
 
 #include <inttypes.h>
@@ -16,23 +18,22 @@ static const char *folder;
 static int failures;
 
 /* Returns whether the result of the last command has these values. */
-static int is_result(uint32_t status, uint32_t error, uint64_t line, uint64_t packet, uint64_t written)
-{
-    return result.status == status && result.error == error && result.line == line && result.packet == packet
-        && result.written == written;
+static int is_result(uint32_t status, uint32_t error, uint64_t line, uint64_t packet, uint64_t written) {
+    return result.status == status && result.error == error && result.line == line && result.packet == packet &&
+           result.written == written;
 }
 
-static void expect(int holds, const char *what)
-{
-    if (!holds) {
-        fprintf(stderr, "FAILED: %s (status %u, error %u, line %" PRIu64 ", packet %" PRIu64 ", written %" PRIu64 ")\n",
-                what, result.status, result.error, result.line, result.packet, result.written);
+static void expect(int is_met, const char *expectation) {
+    if (!is_met) {
+        fprintf(stderr,
+                "FAILED: %s (the result has status %u, error %u, line %" PRIu64 ", packet %" PRIu64
+                " and written %" PRIu64 ")\n",
+                expectation, result.status, result.error, result.line, result.packet, result.written);
         failures++;
     }
 }
 
-static size_t read_file(const char *name, uint8_t *to)
-{
+static size_t read_file(const char *name, uint8_t *to) {
     char path[512];
     snprintf(path, sizeof path, "%s/%s", folder, name);
     FILE *file = fopen(path, "rb");
@@ -45,27 +46,26 @@ static size_t read_file(const char *name, uint8_t *to)
     return size;
 }
 
-/* Runs a command with a buffer of this capacity. Returns whether the byte after the buffer is unchanged. */
-static int run(command *command_fn, size_t log_len, size_t snapshot_len, size_t out_cap)
-{
+/* Runs a command on the log in log_bytes with an output buffer of this capacity. Returns whether the byte after the
+ * buffer is unchanged. */
+static int run(command *command_fn, size_t log_len, size_t snapshot_len, size_t out_cap) {
     memset(out, CANARY, sizeof out);
     command_fn(log_bytes, log_len, snapshot, snapshot_len, out, out_cap, &result);
     return out[out_cap] == CANARY;
 }
 
-/* Replaying a worked log writes the same log, and check passes. */
-static void test_worked_log(const char *name, const char *from)
-{
-    size_t size = read_file(name, log_bytes), begins = from ? read_file(from, snapshot) : 0;
-    run(hidlog_replay, size, begins, CAPACITY - 1);
+/* Tests that hidlog_replay writes a worked log unchanged, and that hidlog_check accepts it. */
+static void test_worked_log(const char *name, const char *snapshot_name) {
+    size_t size = read_file(name, log_bytes), snapshot_len = snapshot_name ? read_file(snapshot_name, snapshot) : 0;
+    run(hidlog_replay, size, snapshot_len, CAPACITY - 1);
     expect(result.status == HIDLOG_OK && result.written == size && !memcmp(out, log_bytes, size), name);
-    run(hidlog_check, size, begins, CAPACITY - 1);
+    run(hidlog_check, size, snapshot_len, CAPACITY - 1);
     expect(result.status == HIDLOG_OK && !memcmp(out, "same ", 5), name);
 }
 
-/* hidlog_live reports the key's need after each input, and replaying the output of hidlog_live writes the same log. */
-static void test_live(void)
-{
+/* Tests that hidlog_live writes what the key needs after an input, and that hidlog_replay writes this output
+ * unchanged. */
+static void test_live(void) {
     size_t size = read_file("registration.log", log_bytes);
     run(hidlog_live, size, 0, CAPACITY - 1);
     expect(result.status == HIDLOG_OK, "hidlog_live replays registration.log");
@@ -79,42 +79,43 @@ static void test_live(void)
            "the output of hidlog_live is replayed unchanged");
 }
 
-/* With a buffer of each smaller size, the result is an error, and the buffer has the start of the output. */
-static void test_small_buffers(void)
-{
+/* Tests hidlog_replay with each capacity that is too small: the result is an error, and the buffer has the start of the
+ * output. */
+static void test_small_buffers(void) {
     size_t size = read_file("registration.log", log_bytes);
     for (size_t out_cap = 0; out_cap < size; out_cap++) {
         expect(run(hidlog_replay, size, 0, out_cap), "the byte after the buffer is unchanged");
-        expect(is_result(HIDLOG_LOG_ERROR, HIDLOG_ERR_BUFFER_TOO_SMALL, 0, 0, out_cap), "a full buffer is HIDLOG_ERR_BUFFER_TOO_SMALL");
+        expect(is_result(HIDLOG_LOG_ERROR, HIDLOG_ERR_BUFFER_TOO_SMALL, 0, 0, out_cap),
+               "the error is HIDLOG_ERR_BUFFER_TOO_SMALL");
         expect(!memcmp(out, log_bytes, out_cap), "the start of the text was written");
     }
     expect(run(hidlog_replay, size, 0, size) && result.status == HIDLOG_OK, "a buffer that is just large enough");
 }
 
-/* The output of each command for a log of one tick, written by hand from docs/use/LOG_FORMAT.md. */
-static void test_tick(void)
-{
+/* Tests the output of each command for a log of one tick. The expected outputs are written by hand from
+ * docs/use/LOG_FORMAT.md. */
+static void test_tick(void) {
     static const struct {
         command *function;
         const char *text;
     } commands[] = {
-        { hidlog_replay, "t 5\n= held 0 rows 0 pending 0 requests 0 bytes 0 steps 0\n" },
-        { hidlog_live, "t 5\n# need nothing\n= held 0 rows 0 pending 0 requests 0 bytes 0 steps 0\n" },
-        { hidlog_check, "same 1 inputs 0 packets\n" },
-        { hidlog_quiet, "t 5\n" },
+        {hidlog_replay, "t 5\n= held 0 rows 0 pending 0 requests 0 bytes 0 steps 0\n"},
+        {hidlog_live, "t 5\n# need nothing\n= held 0 rows 0 pending 0 requests 0 bytes 0 steps 0\n"},
+        {hidlog_check, "same 1 inputs 0 packets\n"},
+        {hidlog_quiet, "t 5\n"},
     };
     memcpy(log_bytes, "t 5\n", 4);
-    for (size_t at = 0; at < sizeof commands / sizeof *commands; at++) {
-        size_t size = strlen(commands[at].text);
-        expect(run(commands[at].function, 4, 0, size), "the byte after the buffer is unchanged");
-        expect(is_result(HIDLOG_OK, 0, 0, 0, size) && !memcmp(out, commands[at].text, size), commands[at].text);
-        expect(run(commands[at].function, 4, 0, size - 1), "the byte after the buffer is unchanged");
-        expect(is_result(HIDLOG_LOG_ERROR, HIDLOG_ERR_BUFFER_TOO_SMALL, 0, 0, size - 1), "a full buffer is HIDLOG_ERR_BUFFER_TOO_SMALL");
+    for (size_t i = 0; i < sizeof commands / sizeof *commands; i++) {
+        size_t size = strlen(commands[i].text);
+        expect(run(commands[i].function, 4, 0, size), "the byte after the buffer is unchanged");
+        expect(is_result(HIDLOG_OK, 0, 0, 0, size) && !memcmp(out, commands[i].text, size), commands[i].text);
+        expect(run(commands[i].function, 4, 0, size - 1), "the byte after the buffer is unchanged");
+        expect(is_result(HIDLOG_LOG_ERROR, HIDLOG_ERR_BUFFER_TOO_SMALL, 0, 0, size - 1),
+               "the error is HIDLOG_ERR_BUFFER_TOO_SMALL");
     }
 }
 
-static void test_errors(void)
-{
+static void test_errors(void) {
     const char bad[] = "t 1\nt 2\nt x\n";
     memcpy(log_bytes, bad, sizeof bad - 1);
     run(hidlog_replay, sizeof bad - 1, 0, CAPACITY - 1);
@@ -126,10 +127,9 @@ static void test_errors(void)
     expect(is_result(HIDLOG_OK, 0, 0, 0, 0), "an empty log");
 }
 
-/* After a digit of a response has been changed, hidlog_check reports the line of the input and the number of the
-   packet. */
-static void test_difference(void)
-{
+/* Tests that hidlog_check finds a changed digit in a packet of the key: it reports the line of the input before, and
+ * the packet's number among the packets after that input. */
+static void test_difference(void) {
     size_t size = read_file("registration.log", log_bytes);
     char *response = strstr((char *)log_bytes, "< 00000001bb0001");
     response[20] = '1';
@@ -137,58 +137,55 @@ static void test_difference(void)
     expect(is_result(HIDLOG_LOG_ERROR, HIDLOG_ERR_MISMATCH, 5, 1, 0), "a packet that differs");
 }
 
-static void test_snapshots(void)
-{
-    size_t size = read_file("sign_in_again.log", log_bytes), begins = read_file("example_com.snapshot", snapshot);
+static void test_snapshots(void) {
+    size_t size = read_file("sign_in_again.log", log_bytes), snapshot_len = read_file("example_com.snapshot", snapshot);
     run(hidlog_check, size, 0, CAPACITY - 1);
     expect(result.error == HIDLOG_ERR_MISMATCH, "a sign-in without its credential");
-    expect(run(hidlog_check, size, begins - 1, 64), "a truncated snapshot");
+    expect(run(hidlog_check, size, snapshot_len - 1, 64), "a truncated snapshot");
     expect(is_result(HIDLOG_SNAPSHOT_ERROR, HIDLOG_ERR_NOT_A_SNAPSHOT, 0, 0, 0), "a truncated snapshot");
     expect(out[0] == CANARY, "nothing is written if the snapshot is rejected");
 }
 
-/* The message of each error of a C function, and truncated messages in small buffers. The texts are listed in
-   docs/use/LOG_FORMAT.md, "Faults". */
-static void test_messages(void)
-{
+/* Tests hidlog_result_message: the message for each error that a command function returns, also truncated to a small
+ * buffer. docs/use/LOG_FORMAT.md lists the texts in "Faults". */
+static void test_messages(void) {
     static const struct {
         struct hidlog_result result;
         const char *text;
     } rows[] = {
-        { { HIDLOG_LOG_ERROR, HIDLOG_ERR_BAD_LINE, 3, 0, 9 }, "hidlog: line 3: not a log line\n" },
-        { { HIDLOG_LOG_ERROR, HIDLOG_ERR_LINE_TOO_LONG, UINT64_MAX, 0, 9 },
-          "hidlog: line 18446744073709551615: longer than 255 bytes\n" },
-        { { HIDLOG_LOG_ERROR, HIDLOG_ERR_MISMATCH, 12, 130, 9 }, "hidlog: line 12: differs at packet 130\n" },
-        { { HIDLOG_LOG_ERROR, HIDLOG_ERR_BUFFER_TOO_SMALL, 0, 0, 9 }, "hidlog: writing failed\n" },
-        { { HIDLOG_LOG_ERROR, HIDLOG_ERR_TOO_MANY_LINES, 0, 0, 9 }, "hidlog: too many lines\n" },
-        { { HIDLOG_SNAPSHOT_ERROR, HIDLOG_ERR_NOT_A_SNAPSHOT, 0, 0, 0 }, "hidlog: snapshot refused: 1\n" },
-        { { HIDLOG_SNAPSHOT_ERROR, HIDLOG_ERR_TOO_MANY_CREDENTIALS, 0, 0, 0 }, "hidlog: snapshot refused: 2\n" },
-        { { HIDLOG_SNAPSHOT_ERROR, HIDLOG_ERR_BAD_CREDENTIAL, 0, 0, 0 }, "hidlog: snapshot refused: 3\n" },
-        { { HIDLOG_OK, 0, 0, 0, 9 }, "" },
-        { { HIDLOG_LOG_ERROR, 99, 0, 0, 9 }, "" },
-        { { HIDLOG_SNAPSHOT_ERROR, 99, 0, 0, 0 }, "" },
+        {{HIDLOG_LOG_ERROR, HIDLOG_ERR_BAD_LINE, 3, 0, 9}, "hidlog: line 3: not a log line\n"},
+        {{HIDLOG_LOG_ERROR, HIDLOG_ERR_LINE_TOO_LONG, UINT64_MAX, 0, 9},
+         "hidlog: line 18446744073709551615: longer than 255 bytes\n"},
+        {{HIDLOG_LOG_ERROR, HIDLOG_ERR_MISMATCH, 12, 130, 9}, "hidlog: line 12: differs at packet 130\n"},
+        {{HIDLOG_LOG_ERROR, HIDLOG_ERR_BUFFER_TOO_SMALL, 0, 0, 9}, "hidlog: writing failed\n"},
+        {{HIDLOG_LOG_ERROR, HIDLOG_ERR_TOO_MANY_LINES, 0, 0, 9}, "hidlog: too many lines\n"},
+        {{HIDLOG_SNAPSHOT_ERROR, HIDLOG_ERR_NOT_A_SNAPSHOT, 0, 0, 0}, "hidlog: snapshot refused: 1\n"},
+        {{HIDLOG_SNAPSHOT_ERROR, HIDLOG_ERR_TOO_MANY_CREDENTIALS, 0, 0, 0}, "hidlog: snapshot refused: 2\n"},
+        {{HIDLOG_SNAPSHOT_ERROR, HIDLOG_ERR_BAD_CREDENTIAL, 0, 0, 0}, "hidlog: snapshot refused: 3\n"},
+        {{HIDLOG_OK, 0, 0, 0, 9}, ""},
+        {{HIDLOG_LOG_ERROR, 99, 0, 0, 9}, ""},
+        {{HIDLOG_SNAPSHOT_ERROR, 99, 0, 0, 0}, ""},
     };
-    for (size_t at = 0; at < sizeof rows / sizeof *rows; at++) {
-        size_t len = strlen(rows[at].text), front = len < 10 ? len : 10;
+    for (size_t i = 0; i < sizeof rows / sizeof *rows; i++) {
+        size_t len = strlen(rows[i].text), truncated_len = len < 10 ? len : 10;
         memset(out, CANARY, sizeof out);
-        expect(hidlog_result_message(&rows[at].result, out, 64) == len, "the length of a message");
-        expect(!memcmp(out, rows[at].text, len) && out[64] == CANARY, "a message");
+        expect(hidlog_result_message(&rows[i].result, out, 64) == len, "the length of a message");
+        expect(!memcmp(out, rows[i].text, len) && out[64] == CANARY, "a message");
         memset(out, CANARY, sizeof out);
-        expect(hidlog_result_message(&rows[at].result, out, 10) == front, "the length of a truncated message");
-        expect(!memcmp(out, rows[at].text, front) && out[10] == CANARY, "a truncated message");
+        expect(hidlog_result_message(&rows[i].result, out, 10) == truncated_len, "the length of a truncated message");
+        expect(!memcmp(out, rows[i].text, truncated_len) && out[10] == CANARY, "a truncated message");
     }
 }
 
-int main(int count, char **words)
-{
-    static const char *const logs[] = { "registration.log", "sign_in.log", "selection.log" };
+int main(int count, char **words) {
+    static const char *const logs[] = {"registration.log", "sign_in.log", "selection.log"};
     if (count != 2) {
         fprintf(stderr, "usage: commands FOLDER\n");
         return 2;
     }
     folder = words[1];
-    for (size_t at = 0; at < sizeof logs / sizeof *logs; at++)
-        test_worked_log(logs[at], NULL);
+    for (size_t i = 0; i < sizeof logs / sizeof *logs; i++)
+        test_worked_log(logs[i], NULL);
     test_worked_log("sign_in_again.log", "example_com.snapshot");
     test_live();
     test_small_buffers();

@@ -1,6 +1,7 @@
-// Saves, removes and adds the credentials of an in-memory key. Replays a log from standard input, compares the output
-// of hidlog_key_save_snapshot with the program's snapshot of the same log, removes the credentials, adds them one by
-// one, and expects the same snapshot. Then makes invalid calls and expects errors.
+// Tests the functions for the credentials of an in-memory key. Replays the log on standard input, and compares the
+// output of hidlog_key_save_snapshot with SNAPSHOT, which the program hidlog has saved for the same log. Then removes
+// the credentials, adds them one by one, and expects the same snapshot again. Makes invalid calls, too, and expects
+// errors.
 //
 //     credentials SNAPSHOT < LOG
 #include "hidlog.h"
@@ -12,34 +13,34 @@
 
 enum { LOG = 4 << 20, TEXT = 20000, SNAPSHOT = HIDLOG_SNAPSHOT_MAX_LEN, AT = 1 << 30 };
 
-static void fail(const char *why) {
-    fprintf(stderr, "credentials: %s\n", why);
+static void fail(const char *error) {
+    fprintf(stderr, "credentials: %s\n", error);
     exit(1);
 }
 
-static void expect(int32_t found, int32_t expected, const char *what) {
+static void expect(int32_t found, int32_t expected, const char *call) {
     if (found != expected) {
-        fprintf(stderr, "credentials: %s returned %" PRId32 ", expected %" PRId32 "\n", what, found, expected);
+        fprintf(stderr, "credentials: %s returned %" PRId32 ", expected %" PRId32 "\n", call, found, expected);
         exit(1);
     }
 }
 
-static void play_log(struct hidlog_key *key) {
+static void replay_log(struct hidlog_key *key) {
     static uint8_t text[TEXT];
     char line[257];
     struct hidlog_result result;
     while (fgets(line, sizeof line, stdin) != NULL) {
         if (hidlog_key_replay_lines(key, (const uint8_t *)line, strlen(line), text, sizeof text, &result) != 0) {
-            fail("the key rejected a valid line");
+            fail("hidlog_key_replay_lines rejected a line of the log on standard input");
         }
     }
 }
 
-// Reads the snapshot that the program wrote. Returns its length.
+// Reads the snapshot file, which the program hidlog has saved. Returns its length.
 static int32_t read_snapshot(const char *path, uint8_t *snapshot) {
     FILE *file = fopen(path, "rb");
     if (file == NULL) {
-        fail("cannot open the snapshot");
+        fail("cannot open the file SNAPSHOT");
     }
     size_t len = fread(snapshot, 1, SNAPSHOT, file);
     fclose(file);
@@ -51,18 +52,18 @@ static void expect_snapshot(struct hidlog_key *key, const uint8_t *snapshot, int
     memset(saved, 0xee, sizeof saved);
     expect(hidlog_key_save_snapshot(key, saved, SNAPSHOT), len, what);
     if (memcmp(saved, snapshot, (size_t)len) != 0) {
-        fail("the saved snapshot is not the expected one");
+        fail("the snapshot that hidlog_key_save_snapshot wrote differs from the expected one");
     }
     for (size_t i = (size_t)len; i < sizeof saved; i++) {
         if (saved[i] != 0xee) {
-            fail("a byte after the snapshot was changed");
+            fail("hidlog_key_save_snapshot changed a byte after the snapshot");
         }
     }
     expect(hidlog_key_save_snapshot(key, saved, SNAPSHOT - 1), HIDLOG_KEY_ERR_BUFFER_TOO_SMALL,
-         "save into a buffer that is too small");
+           "save into a buffer that is too small");
 }
 
-// Reads all credentials. Returns their number.
+// Copies all credentials of the key to an array. Returns their number.
 static int32_t read_credentials(struct hidlog_key *key, struct hidlog_credential *credentials) {
     int32_t count = hidlog_key_credential_count(key);
     for (int32_t i = 0; i < count; i++) {
@@ -90,13 +91,14 @@ static void test_invalid_adds(struct hidlog_key *key, const struct hidlog_creden
     wrong.discoverable = 1;
     if (credential->discoverable) {
         expect(hidlog_key_add_credential(key, AT, &wrong), HIDLOG_KEY_ERR_DUPLICATE_USER,
-             "another ID for the same RP and user");
+               "another ID for the same RP and user");
     }
     expect(hidlog_key_remove_credential(key, AT, wrong.id), HIDLOG_KEY_ERR_INVALID_ARGUMENT,
-         "remove of a missing credential");
+           "remove of a missing credential");
 }
 
-// Removes all credentials, and adds them again in order.
+// Removes all credentials, adds them again in the same order, and expects the same snapshot. Then removes them one by
+// one.
 static void test_add_again(struct hidlog_key *key, const uint8_t *snapshot, int32_t len) {
     static struct hidlog_credential credentials[HIDLOG_CAPACITY];
     int32_t count = read_credentials(key, credentials);
@@ -118,7 +120,7 @@ static void test_add_again(struct hidlog_key *key, const uint8_t *snapshot, int3
     }
 }
 
-// Fills the key with credentials that differ in their IDs, and expects that a further credential is rejected.
+// Fills the key to its capacity, with credentials that differ only in their IDs, and expects that one more is rejected.
 static void fill_key(struct hidlog_key *key) {
     struct hidlog_credential credential = {.sign_count = 7};
     for (unsigned i = 0; i < HIDLOG_CAPACITY; i++) {
@@ -145,7 +147,7 @@ int main(int count, char **words) {
     struct hidlog_key key = {0};
     struct hidlog_need need;
     if (count != 2) {
-        fail("usage: credentials SNAPSHOT < LOG");
+        fail("expected one argument; usage: credentials SNAPSHOT < LOG");
     }
     key.memory = aligned_alloc(16, (hidlog_key_size() + 15) / 16 * 16);
     if (key.memory == NULL) {
@@ -153,9 +155,9 @@ int main(int count, char **words) {
     }
     test_rejected_changes(&key, HIDLOG_KEY_ERR_NOT_INITIALIZED);
     expect(hidlog_key_save_snapshot(&key, snapshot, sizeof snapshot), HIDLOG_KEY_ERR_NOT_INITIALIZED,
-         "save of an uninitialized key");
+           "save of an uninitialized key");
     expect(hidlog_key_init(&key, aaguid, 0, snapshot, 0), 0, "init");
-    play_log(&key);
+    replay_log(&key);
     int32_t len = read_snapshot(words[1], snapshot);
     expect_snapshot(&key, snapshot, len, "save");
     if (hidlog_key_get_need(&key, &need) != HIDLOG_NEED_NONE) {

@@ -1,14 +1,14 @@
-// Reads a log from standard input, passes its inputs to an in-memory key one by one, and writes what `hidlog replay`
-// should write for the log. The caller compares the two outputs.
+// Tests an in-memory key with the log on standard input: passes the log's inputs to the key one by one, and prints the
+// inputs and the key's packets as `hidlog replay` does. tests/c/run.sh compares the two outputs.
 //
-//     key                  with one call per input
-//     key lines            with hidlog_key_replay_lines, one line per call
-//     key recorded         with hidlog_recording.h, which writes the recording: without comments and totals
-//     key snapshot FILE    like the first, with the credentials of a snapshot
-//     key invalid-calls    invalid calls; prints nothing and returns 0 if each fails as documented
+//     key                  calls the function for each input, such as hidlog_key_tick
+//     key lines            passes each line to hidlog_key_replay_lines instead
+//     key recorded         calls the functions of hidlog_recording.h, and prints only the recording that they write
+//     key snapshot FILE    like `key`, with the credentials of the snapshot in FILE
+//     key invalid-calls    makes invalid calls instead; prints nothing and returns 0 if each fails as documented
 #include "hidlog.h"
 #include "hidlog_recording.h"
-#include "hidlog_standard.h" // unused: tests that a program can include all headers
+#include "hidlog_standard.h" // not used, but it must be possible to include all headers
 
 #include <inttypes.h>
 #include <stdbool.h>
@@ -18,8 +18,8 @@
 
 enum { LINE = 257, TEXT = 20000, SNAPSHOT = 20000 };
 
-static void fail(const char *why) {
-    fprintf(stderr, "key: %s\n", why);
+static void fail(const char *error) {
+    fprintf(stderr, "key: %s\n", error);
     exit(2);
 }
 
@@ -28,27 +28,27 @@ static void init_key(struct hidlog_key *key, const uint8_t *snapshot, size_t sna
     memset(key, 0, sizeof *key);
     key->memory = aligned_alloc(16, (hidlog_key_size() + 15) / 16 * 16);
     if (key->memory == NULL || hidlog_key_init(key, aaguid, 0, snapshot, snapshot_len) != 0) {
-        fail("cannot initialize the key");
+        fail("out of memory, or hidlog_key_init failed");
     }
 }
 
 static void destroy_key(struct hidlog_key *key) {
     if (hidlog_key_destroy(key) != 0) {
-        fail("cannot destroy the key");
+        fail("hidlog_key_destroy failed for an initialized key");
     }
     free(key->memory);
 }
 
-// Parses a hex field. Returns its length in bytes.
-static size_t parse_hex(const char *field, uint8_t *bytes, size_t most) {
+// Parses a field of hexadecimal digits. Returns the number of bytes.
+static size_t parse_hex(const char *field, uint8_t *bytes, size_t max_len) {
     size_t len = strlen(field) / 2;
-    if (strlen(field) % 2 != 0 || len > most) {
-        fail("a hex field has an odd length or too many digits");
+    if (strlen(field) % 2 != 0 || len > max_len) {
+        fail("a line of the log has a hexadecimal field with an odd number of digits, or with too many");
     }
     for (size_t i = 0; i < len; i++) {
         unsigned byte;
         if (sscanf(field + 2 * i, "%2x", &byte) != 1) {
-            fail("invalid hex digits");
+            fail("a line of the log has a hexadecimal field with an invalid digit");
         }
         bytes[i] = (uint8_t)byte;
     }
@@ -62,10 +62,11 @@ static uint32_t parse_presence(const char *word) {
     return strcmp(word, "denied") == 0 ? HIDLOG_PRESENCE_DENIED : HIDLOG_PRESENCE_TIMED_OUT;
 }
 
-// Whether to call the functions of hidlog_recording.h, with standard output as the recording.
+// Whether to call the functions of hidlog_recording.h, so that they write a recording to standard output.
 static bool is_recorded;
 
-// Provides a key pair or a signature. The word "no" refuses to provide one.
+// Handles an input line with the letter k or s: provides a key pair or a signature, or refuses to if the field after
+// the timestamp is "no".
 static int32_t provide_reply(struct hidlog_key *key, char letter, uint64_t now_ms, char *fields[3]) {
     uint8_t bytes[3][72];
     bool is_no = strcmp(fields[0], "no") == 0;
@@ -89,7 +90,7 @@ static int32_t provide_reply(struct hidlog_key *key, char letter, uint64_t now_m
                        : hidlog_key_provide_key_pair(key, now_ms, bytes[0], bytes[1], bytes[2]);
 }
 
-// Passes the input of a line to the key. Returns the number of queued packets, or -1 if the line is not an input.
+// Passes the input of a log line to the key. Returns the number of queued packets, or -1 if the line is not an input.
 static int32_t handle_input(struct hidlog_key *key, const char *line) {
     char text[LINE], *fields[3] = {"", "", ""};
     uint8_t packet[64];
@@ -122,7 +123,7 @@ static void write_packets(struct hidlog_key *key, int32_t queued) {
     uint8_t packet[64];
     for (; queued > 0; queued--) {
         if (hidlog_key_queued_packets(key) != queued || hidlog_key_read_packet(key, packet) != queued - 1) {
-            fail("hidlog_key_queued_packets or hidlog_key_read_packet returned a wrong number of queued packets");
+            fail("the numbers of queued packets are inconsistent: each hidlog_key_read_packet must reduce it by one");
         }
         fputs("< ", stdout);
         for (int i = 0; i < 64; i++) {
@@ -131,14 +132,14 @@ static void write_packets(struct hidlog_key *key, int32_t queued) {
         putchar('\n');
     }
     if (hidlog_key_read_packet(key, packet) != HIDLOG_KEY_ERR_NO_PACKET) {
-        fail("hidlog_key_read_packet returned a packet while no packet was queued");
+        fail("hidlog_key_read_packet did not return HIDLOG_KEY_ERR_NO_PACKET, although no packet was queued");
     }
 }
 
 static void write_stats(struct hidlog_key *key) {
     struct hidlog_stats stats;
     if (hidlog_key_get_stats(key, &stats) != 0) {
-        fail("hidlog_key_get_stats failed");
+        fail("hidlog_key_get_stats failed for an initialized key");
     }
     printf("= held %" PRIu32 " rows %" PRIu32 " pending %" PRIu32 " requests %" PRIu64 " bytes %" PRIu64
            " steps %" PRIu64 "\n",
@@ -146,7 +147,7 @@ static void write_stats(struct hidlog_key *key) {
            stats.steps);
 }
 
-static void play_log(struct hidlog_key *key) {
+static void replay_inputs(struct hidlog_key *key) {
     char line[LINE];
     while (fgets(line, sizeof line, stdin) != NULL) {
         line[strcspn(line, "\n")] = '\0';
@@ -162,8 +163,8 @@ static void play_log(struct hidlog_key *key) {
     write_stats(key);
 }
 
-// Replays the log with the functions of hidlog_recording.h, which write the recording.
-static void play_with_recording(struct hidlog_key *key) {
+// Replays the log with the functions of hidlog_recording.h, which write a recording to standard output.
+static void replay_with_recording(struct hidlog_key *key) {
     char line[LINE];
     uint8_t packet[64];
     is_recorded = true;
@@ -174,33 +175,33 @@ static void play_with_recording(struct hidlog_key *key) {
             queued = hidlog_record_read_packet(key, stdout, packet);
         }
         if (queued == HIDLOG_ERR_NOT_RECORDED) {
-            fail("cannot write the recording");
+            fail("cannot write the recording to standard output");
         }
     }
 }
 
-static void play_lines(struct hidlog_key *key) {
+static void replay_lines(struct hidlog_key *key) {
     static uint8_t text[TEXT];
     char line[LINE];
     struct hidlog_result result;
     while (fgets(line, sizeof line, stdin) != NULL) {
         int32_t status = hidlog_key_replay_lines(key, (const uint8_t *)line, strlen(line), text, sizeof text, &result);
         if (status != 0 || result.status != 0) {
-            fail("the key rejected a valid line");
+            fail("hidlog_key_replay_lines rejected a line of the log on standard input");
         }
         fwrite(text, 1, result.written, stdout);
     }
     write_stats(key);
 }
 
-static void expect(int32_t found, int32_t expected, const char *what) {
+static void expect(int32_t found, int32_t expected, const char *call) {
     if (found != expected) {
-        fprintf(stderr, "key: %s returned %" PRId32 ", expected %" PRId32 "\n", what, found, expected);
+        fprintf(stderr, "key: %s returned %" PRId32 ", expected %" PRId32 "\n", call, found, expected);
         exit(1);
     }
 }
 
-// INIT on the broadcast channel (CTAP 2.1, section 11.2.9.1.3).
+// A packet with the request INIT on the broadcast channel (CTAP 2.1, section 11.2.9.1.3).
 static const uint8_t init_packet[64] = {0xff, 0xff, 0xff, 0xff, 0x86, 0x00, 0x08, 1, 2, 3, 4, 5, 6, 7, 8};
 
 static void test_uninitialized_key(struct hidlog_key *key) {
@@ -209,18 +210,18 @@ static void test_uninitialized_key(struct hidlog_key *key) {
     struct hidlog_need need;
     expect(hidlog_key_tick(key, 1), HIDLOG_KEY_ERR_NOT_INITIALIZED, "a tick of a key that was never initialized");
     expect(hidlog_key_read_packet(key, packet), HIDLOG_KEY_ERR_NOT_INITIALIZED,
-         "read_packet of a key that was never initialized");
+           "read_packet of a key that was never initialized");
     expect(hidlog_key_get_need(key, &need), HIDLOG_KEY_ERR_NOT_INITIALIZED, "need of a key that was never initialized");
     expect(hidlog_key_credential_count(key), HIDLOG_KEY_ERR_NOT_INITIALIZED,
-         "credentials of a key that was never initialized");
+           "credentials of a key that was never initialized");
     expect(hidlog_key_destroy(key), HIDLOG_KEY_ERR_NOT_INITIALIZED, "destroy of a key that was never initialized");
     expect(hidlog_key_provide_presence(key, 1, 7), HIDLOG_KEY_ERR_NOT_INITIALIZED,
-         "a wrong presence of a key that was never initialized");
+           "a wrong presence of a key that was never initialized");
     expect(hidlog_key_init(key, aaguid, 0, no_snapshot, sizeof no_snapshot), HIDLOG_KEY_ERR_NOT_A_SNAPSHOT,
-         "init with an invalid snapshot");
+           "init with an invalid snapshot");
     expect(hidlog_key_init(key, aaguid, 0, no_snapshot, 0), 0, "init");
     expect(hidlog_key_init(key, aaguid, 0, no_snapshot, 0), HIDLOG_KEY_ERR_ALREADY_INITIALIZED,
-         "init of an initialized key");
+           "init of an initialized key");
 }
 
 static void test_invalid_calls(struct hidlog_key *key) {
@@ -230,20 +231,20 @@ static void test_invalid_calls(struct hidlog_key *key) {
     expect(hidlog_key_write_packet(key, 1, init_packet), 1, "INIT");
     expect(hidlog_key_tick(key, 2), HIDLOG_KEY_ERR_PACKETS_QUEUED, "a tick while a packet is queued");
     expect(hidlog_key_replay_lines(key, (const uint8_t *)"t 5\n", 4, packet, sizeof packet, &result),
-         HIDLOG_KEY_ERR_PACKETS_QUEUED, "lines while a packet is queued");
+           HIDLOG_KEY_ERR_PACKETS_QUEUED, "lines while a packet is queued");
     expect((int32_t)result.status, 9, "the result of lines that were not played");
     expect(hidlog_key_read_packet(key, packet), 0, "read_packet");
     expect(hidlog_key_provide_presence(key, 3, 3), HIDLOG_KEY_ERR_INVALID_ARGUMENT, "an invalid presence");
     expect(hidlog_key_provide_signature(key, 3, signature, 0), HIDLOG_KEY_ERR_INVALID_ARGUMENT,
-         "a signature of no bytes");
+           "a signature of no bytes");
     expect(hidlog_key_provide_signature(key, 3, signature, 73), HIDLOG_KEY_ERR_INVALID_ARGUMENT,
-         "a signature of 73 bytes");
+           "a signature of 73 bytes");
     expect(hidlog_key_provide_signature(key, 3, signature, 72), 0, "a signature that is not needed");
     expect(hidlog_key_get_credential(key, 0, &credential), HIDLOG_KEY_ERR_INVALID_ARGUMENT, "a missing credential");
     expect(hidlog_key_credential_count(key), 0, "hidlog_key_credential_count");
     expect(hidlog_key_pending_assertions(key), 0, "hidlog_key_pending_assertions");
     expect(hidlog_key_replay_lines(key, (const uint8_t *)"t 5\nx\n", 6, packet, sizeof packet, &result), 1,
-         "an invalid line");
+           "an invalid line");
     expect((int32_t)result.error, HIDLOG_ERR_BAD_LINE, "the error of an invalid line");
     expect((int32_t)result.line, 2, "the line of the error");
     expect(hidlog_key_destroy(key), 0, "destroy");
@@ -272,18 +273,18 @@ int main(int count, char **words) {
     if (count == 3 && strcmp(words[1], "snapshot") == 0) {
         FILE *file = fopen(words[2], "rb");
         if (file == NULL) {
-            fail("cannot open the snapshot");
+            fail("cannot open the snapshot file");
         }
         snapshot_len = fread(snapshot, 1, sizeof snapshot, file);
         fclose(file);
     }
     init_key(&key, snapshot, snapshot_len);
     if (count == 2 && strcmp(words[1], "lines") == 0) {
-        play_lines(&key);
+        replay_lines(&key);
     } else if (count == 2 && strcmp(words[1], "recorded") == 0) {
-        play_with_recording(&key);
+        replay_with_recording(&key);
     } else {
-        play_log(&key);
+        replay_inputs(&key);
     }
     destroy_key(&key);
     return 0;

@@ -1,6 +1,6 @@
-// Tests hidlog_recording.h: each line is in the file when its call returns, a rejected call writes nothing, and a
-// failed write is reported. The expected lines are written by hand from docs/use/LOG_FORMAT.md. Prints nothing and
-// returns 0 on success.
+// Tests hidlog_recording.h: when a call returns, its line is in the file; a rejected call writes nothing; and a failed
+// write is reported. The expected lines are written by hand from docs/use/LOG_FORMAT.md. Prints nothing and returns 0
+// on success.
 //
 //     recording FILE    writes the recording to FILE
 #include "hidlog_recording.h"
@@ -13,42 +13,42 @@
 enum { TEXT = 4096, LINE = 300 };
 
 static const char *path;
-// The expected contents of the file.
+// What the recording must contain after the calls so far.
 static char expected[TEXT];
 
-static void expect(int holds, const char *what) {
-    if (!holds) {
-        fprintf(stderr, "recording: %s\n", what);
+static void expect(int is_met, const char *failure) {
+    if (!is_met) {
+        fprintf(stderr, "recording: %s\n", failure);
         exit(1);
     }
 }
 
-// Checks that the file has the expected lines. Opens the file again, since unflushed lines must not count.
-static void check_file(const char *what) {
+// Checks that the recording has the expected lines. Opens the file again, to see only what has been flushed.
+static void check_file(const char *failure) {
     static char found[TEXT];
     FILE *file = fopen(path, "rb");
     expect(file != NULL, "cannot open the recording");
     size_t len = fread(found, 1, sizeof found - 1, file);
     found[len] = 0;
-    expect(fclose(file) == 0 && strcmp(found, expected) == 0, what);
+    expect(fclose(file) == 0 && strcmp(found, expected) == 0, failure);
 }
 
-// Expects that a call returned `wanted` and wrote this line. `result` is the call's return value.
+// Checks a call that has returned `result`: expects that this is `wanted`, and that the call wrote this line.
 static void expect_recorded(int32_t result, int32_t wanted, const char *line) {
     expect(result == wanted, line);
-    expect(strlen(expected) + strlen(line) + 2 < sizeof expected, "too many lines");
+    expect(strlen(expected) + strlen(line) + 2 < sizeof expected, "the expected lines do not fit in `expected`");
     strcat(expected, line);
     strcat(expected, "\n");
     check_file(line);
 }
 
-// Expects that a call returned `wanted` and wrote nothing. `result` is the call's return value.
-static void expect_rejected(int32_t result, int32_t wanted, const char *what) {
-    expect(result == wanted, what);
-    check_file(what);
+// Checks a call that has returned `result`: expects that this is the error `wanted`, and that the call wrote nothing.
+static void expect_rejected(int32_t result, int32_t wanted, const char *failure) {
+    expect(result == wanted, failure);
+    check_file(failure);
 }
 
-// Returns a text followed by `count` copies of two digits.
+// Returns `text` followed by `count` copies of `digits`, which are two hexadecimal digits.
 static const char *repeat_digits(const char *text, const char *digits, size_t count) {
     static char line[LINE];
     strcpy(line, text);
@@ -70,8 +70,8 @@ static void read_response(struct hidlog_key *key, FILE *log, const char *start) 
     expect_recorded(result, 0, line);
 }
 
-// Sends authenticatorSelection (CTAP 2.1, section 6.9) on channel 1 at `now_ms`, and reads the KEEPALIVE with status
-// UPNEEDED.
+// Sends the request authenticatorSelection (CTAP 2.1, section 6.9) on channel 1, and reads the KEEPALIVE with the
+// status UPNEEDED. `line` is the beginning of the expected line.
 static void select_key(struct hidlog_key *key, FILE *log, uint64_t now_ms, const char *line) {
     static const uint8_t selection[64] = {0, 0, 0, 1, 0x90, 0, 1, 0x0b};
     expect_recorded(hidlog_record_write_packet(key, log, now_ms, selection), 1, repeat_digits(line, "00", 56));
@@ -81,39 +81,39 @@ static void select_key(struct hidlog_key *key, FILE *log, uint64_t now_ms, const
 static void test_packets(struct hidlog_key *key, FILE *log) {
     static const uint8_t init[64] = {0xff, 0xff, 0xff, 0xff, 0x86, 0, 8, 1, 2, 3, 4, 5, 6, 7, 0xfe};
     uint8_t packet[64];
-    // The timestamps are 2^40 and more, which do not fit in 32 bits.
+    // All timestamps are 2^40 or more, to test that timestamps of more than 32 bits are written correctly.
     expect_recorded(hidlog_record_write_packet(key, log, UINT64_C(1099511627776), init), 1,
-             repeat_digits("> 1099511627776 ffffffff86000801020304050607fe", "00", 49));
+                    repeat_digits("> 1099511627776 ffffffff86000801020304050607fe", "00", 49));
     expect_rejected(hidlog_record_write_packet(key, log, UINT64_C(1099511627777), init), HIDLOG_KEY_ERR_PACKETS_QUEUED,
-             "a packet while another is queued was not rejected");
+                    "a packet while another is queued was not rejected");
     expect_rejected(hidlog_record_tick(key, log, UINT64_C(1099511627777)), HIDLOG_KEY_ERR_PACKETS_QUEUED,
-             "a tick while a packet is queued was not rejected");
+                    "a tick while a packet is queued was not rejected");
     read_response(key, log, "ffffffff86001101020304050607fe00000001");
     expect_rejected(hidlog_record_read_packet(key, log, packet), HIDLOG_KEY_ERR_NO_PACKET,
-             "a packet was read while none was queued");
+                    "a packet was read while none was queued");
     expect_recorded(hidlog_record_tick(key, log, UINT64_C(1099511627781)), 0, "t 1099511627781");
 }
 
 static void test_presence(struct hidlog_key *key, FILE *log) {
     select_key(key, log, UINT64_C(1099511627790), "> 1099511627790 000000019000010b");
-    expect_rejected(hidlog_record_provide_presence(key, log, UINT64_C(1099511627791), 3), HIDLOG_KEY_ERR_INVALID_ARGUMENT,
-             "an invalid presence was not rejected");
+    expect_rejected(hidlog_record_provide_presence(key, log, UINT64_C(1099511627791), 3),
+                    HIDLOG_KEY_ERR_INVALID_ARGUMENT, "an invalid presence was not rejected");
     expect_recorded(hidlog_record_provide_presence(key, log, UINT64_C(1099511627792), HIDLOG_PRESENCE_GRANTED), 1,
-             "p 1099511627792 granted");
+                    "p 1099511627792 granted");
     expect_rejected(hidlog_record_provide_presence(key, log, UINT64_C(1099511627793), HIDLOG_PRESENCE_GRANTED),
-             HIDLOG_KEY_ERR_PACKETS_QUEUED, "a presence while a packet is queued was not rejected");
+                    HIDLOG_KEY_ERR_PACKETS_QUEUED, "a presence while a packet is queued was not rejected");
     read_response(key, log, "0000000190000100");
     select_key(key, log, UINT64_C(1099511627800), "> 1099511627800 000000019000010b");
     expect_recorded(hidlog_record_provide_presence(key, log, UINT64_C(1099511627801), HIDLOG_PRESENCE_DENIED), 1,
-             "p 1099511627801 denied");
+                    "p 1099511627801 denied");
     read_response(key, log, "0000000190000127");
     select_key(key, log, UINT64_C(1099511627810), "> 1099511627810 000000019000010b");
     expect_recorded(hidlog_record_provide_presence(key, log, UINT64_C(1099511627811), HIDLOG_PRESENCE_TIMED_OUT), 1,
-             "p 1099511627811 timeout");
+                    "p 1099511627811 timeout");
     read_response(key, log, "000000019000012f");
 }
 
-// Replies that the key does not need are ignored by the key, but recorded.
+// Tests key pairs and signatures that the key does not need: the key ignores them, but they are recorded.
 static void test_replies(struct hidlog_key *key, FILE *log) {
     uint8_t id[32], x[32], y[32], signature[73];
     char line[LINE];
@@ -129,38 +129,39 @@ static void test_replies(struct hidlog_key *key, FILE *log) {
     expect_recorded(hidlog_record_provide_key_pair(key, log, UINT64_C(1099511627820), id, x, y), 0, line);
     expect_recorded(hidlog_record_refuse_key_pair(key, log, UINT64_C(1099511627821)), 0, "k 1099511627821 no");
     expect_rejected(hidlog_record_provide_signature(key, log, UINT64_C(1099511627822), signature, 0),
-             HIDLOG_KEY_ERR_INVALID_ARGUMENT, "an empty signature was not rejected");
+                    HIDLOG_KEY_ERR_INVALID_ARGUMENT, "an empty signature was not rejected");
     expect_rejected(hidlog_record_provide_signature(key, log, UINT64_C(1099511627822), signature, 73),
-             HIDLOG_KEY_ERR_INVALID_ARGUMENT, "a signature of 73 bytes was not rejected");
-    expect_recorded(hidlog_record_provide_signature(key, log, UINT64_C(1099511627823), signature, 1), 0, "s 1099511627823 d4");
+                    HIDLOG_KEY_ERR_INVALID_ARGUMENT, "a signature of 73 bytes was not rejected");
+    expect_recorded(hidlog_record_provide_signature(key, log, UINT64_C(1099511627823), signature, 1), 0,
+                    "s 1099511627823 d4");
     expect_recorded(hidlog_record_provide_signature(key, log, UINT64_C(1099511627824), signature, 72), 0,
-             repeat_digits("s 1099511627824 ", "d4", 72));
+                    repeat_digits("s 1099511627824 ", "d4", 72));
     expect_recorded(hidlog_record_refuse_signature(key, log, UINT64_C(1099511627825)), 0, "s 1099511627825 no");
 }
 
-// Makes each call on a destroyed key.
+// Tests that each function rejects a destroyed key, and writes nothing.
 static void test_destroyed_key(struct hidlog_key *key, FILE *log) {
     uint8_t bytes[64] = {0};
     int32_t wanted = HIDLOG_KEY_ERR_NOT_INITIALIZED;
     expect_rejected(hidlog_record_write_packet(key, log, 1, bytes), wanted,
-             "write_packet of a destroyed key was not rejected");
+                    "write_packet of a destroyed key was not rejected");
     expect_rejected(hidlog_record_tick(key, log, 1), wanted, "tick of a destroyed key was not rejected");
     expect_rejected(hidlog_record_provide_presence(key, log, 1, 0), wanted,
-             "provide_presence of a destroyed key was not rejected");
+                    "provide_presence of a destroyed key was not rejected");
     expect_rejected(hidlog_record_provide_key_pair(key, log, 1, bytes, bytes, bytes), wanted,
-             "provide_key_pair of a destroyed key was not rejected");
+                    "provide_key_pair of a destroyed key was not rejected");
     expect_rejected(hidlog_record_refuse_key_pair(key, log, 1), wanted,
-             "refuse_key_pair of a destroyed key was not rejected");
+                    "refuse_key_pair of a destroyed key was not rejected");
     expect_rejected(hidlog_record_provide_signature(key, log, 1, bytes, 64), wanted,
-             "provide_signature of a destroyed key was not rejected");
+                    "provide_signature of a destroyed key was not rejected");
     expect_rejected(hidlog_record_refuse_signature(key, log, 1), wanted,
-             "refuse_signature of a destroyed key was not rejected");
+                    "refuse_signature of a destroyed key was not rejected");
     expect_rejected(hidlog_record_read_packet(key, log, bytes), wanted,
-             "read_packet of a destroyed key was not rejected");
+                    "read_packet of a destroyed key was not rejected");
 }
 
 #ifndef _WIN32
-// A line that cannot be written is reported with HIDLOG_ERR_NOT_RECORDED, and errno is set.
+// Tests that a function returns HIDLOG_ERR_NOT_RECORDED and sets errno if it cannot write its line.
 static void test_full_disk(struct hidlog_key *key) {
     FILE *full = fopen("/dev/full", "wb");
     if (full == NULL) {

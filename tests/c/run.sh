@@ -1,15 +1,15 @@
 #!/usr/bin/env bash
-# Tests the C library with C programs: commands on logs (commands.c), showing logs (show.c), an in-memory key (key.c),
-# the causes of rejected inputs (causes.c, cause_codes.c), the key's credentials (credentials.c) and capacity
-# (capacity.c), and recordings (recording.c). For each worked log, the output must equal that of the program hidlog.
-# Uses the static and the shared library of release/, gcc's sanitizers, and if installed musl and aarch64 with qemu.
-# Also checks that the libraries call only memcpy, memmove and memset, and that a C++ compiler accepts the headers. Exits
-# with 3 if gcc is missing.
+# Tests the C library with C programs: its command functions (commands.c, show.c), in-memory keys (key.c), the causes of
+# rejected inputs (causes.c, cause_codes.c), the key's credentials (credentials.c) and capacity (capacity.c), and
+# recordings (recording.c). For each worked log, the output must equal that of the program hidlog. The programs are
+# linked with the static and the shared library of release/, compiled with gcc's sanitizers, and if installed, with musl
+# and for aarch64. Also checks that the libraries call only memcpy, memmove and memset, and that a C++ compiler accepts
+# the headers. Exits with 3 if gcc is missing.
 #
-#     tests/c/run.sh                                      the libraries of release/
-#     tests/c/run.sh LIBRARY COMPILER LINKED [WORD ..]    another library. COMPILER and LINKED are the compiler and the
-#                                                         options for linking, and may have several words. WORD .. is the
-#                                                         command that runs a program
+#     tests/c/run.sh                                      tests the libraries of release/
+#     tests/c/run.sh LIBRARY COMPILER OPTIONS [WORD ..]   tests another library. COMPILER, and OPTIONS for linking, may
+#                                                         have several words. WORD .. is a command that runs the
+#                                                         compiled programs, such as qemu
 set -euo pipefail
 top=$(cd "$(dirname "${BASH_SOURCE[0]}")/../.." && pwd)
 command -v gcc >/dev/null ||
@@ -23,11 +23,11 @@ fail() {
     exit 1
 }
 
-# Complete logs of sessions without initial credentials.
+# The worked logs of sessions that start without credentials.
 logs=("$top"/examples/*.log "$top"/crates/hidlog_cli/data/capacity_64/*.log)
 
-# Replays a log with the in-memory key in three ways, and compares each output, and the credentials, with the program's.
-# Skips a log that the program rejects: compare_replay LOG [WORD ..]
+# Replays a log with the in-memory key in three ways (key.c), and compares each output, and the key's credentials, with
+# those of the program hidlog. Skips a log that the program rejects: compare_replay LOG [WORD ..]
 compare_replay() {
     "$top/release/hidlog" replay <"$1" >"$work/replayed" 2>/dev/null || return 0
     "${@:2}" "$work/key" <"$1" >"$work/held" || fail "the in-memory key fails for $1"
@@ -44,8 +44,8 @@ compare_replay() {
     played=$((played + 1))
 }
 
-# Compares how the library and the program show a log in one form, including the error message: compare_show_form LOG
-# PROGRAM_OPTION LIBRARY_ARGUMENT [WORD ..]
+# Compares what the library's hidlog_show writes for a log in one form, plain or explained, with what `hidlog show`
+# prints, including the error message: compare_show_form LOG PROGRAM_OPTION LIBRARY_ARGUMENT [WORD ..]
 compare_show_form() {
     local status=0 expected=0
     "$top/release/hidlog" show "$2" <"$1" >"$work/shown" 2>"$work/error" || expected=$?
@@ -57,7 +57,8 @@ compare_show_form() {
     shown=$((shown + 1))
 }
 
-# Compares the transaction of each line with the program's JSON: compare_transactions LOG [WORD ..]
+# Compares the transaction that the library reports for each line with that in `hidlog show --json`:
+# compare_transactions LOG [WORD ..]
 compare_transactions() {
     { "$top/release/hidlog" show --json <"$1" 2>/dev/null || true; } | sed -nE \
         's/^\{"line":([0-9]+),"kind":"(packet|tick|presence|key|signature)"(.*"transaction":([0-9]+))?.*/\1 \4/p' |
@@ -68,9 +69,9 @@ compare_transactions() {
     cmp -s "$work/shown" "$work/held" || fail "the transactions of lines differ for $1"
 }
 
-# Compares the message that the library reports for each packet with the message in the log, whose packets must be in
-# order. An initialization packet starts a message on a channel in one direction, and continuation packets belong to the
-# last message of the same channel and direction: compare_messages LOG [WORD ..]
+# Compares the message that the library reports for each packet with one that is worked out here: an initialization
+# packet starts a message, and a continuation packet belongs to the last message in the same direction on the same
+# channel. The log must have no packets out of sequence: compare_messages LOG [WORD ..]
 compare_messages() {
     awk '
         { packet = $1 == ">" ? $3 : $2; at = $1 substr(packet, 1, 8) }
@@ -81,14 +82,15 @@ compare_messages() {
     cmp -s "$work/shown" "$work/held" || fail "the messages of packets differ for $1"
 }
 
-# Compares how the library and the program show a log, in both forms, and the transactions: compare_log LOG [WORD ..]
+# Compares how the library and the program show a log, in both forms, and which transactions they find: compare_log LOG
+# [WORD ..]
 compare_log() {
     compare_show_form "$1" --plain "" "${@:2}"
     compare_show_form "$1" --explain explain "${@:2}"
     compare_transactions "$@"
 }
 
-# Writes the malformed logs that the fuzzer generates from seed 1.
+# Writes malformed logs: those that the fuzzer generates from seed 1.
 write_malformed_logs() {
     mkdir "$work/hostile"
     python3 - "$top/tests/fuzz" "$work/hostile" <<'PYTHON'
@@ -109,8 +111,8 @@ compare_logs() {
     shown=0
     for log in "${logs[@]}" "$work"/hostile/*.log; do
         compare_log "$log" "$@"
-        head -c 700 "$log" >"$work/front"
-        compare_log "$work/front" "$@"
+        head -c 700 "$log" >"$work/first_bytes"
+        compare_log "$work/first_bytes" "$@"
     done
     for log in "$top"/examples/{registration,sign_in}.log; do
         compare_messages "$log" "$@"
@@ -119,7 +121,7 @@ compare_logs() {
     echo "tests/c: $((shown / 2)) logs shown like the program, in both forms, and their transactions"
 }
 
-# Runs the programs, with a prefix command: run_programs TITLE [WORD ..]
+# Runs the programs, each with the command WORD .. before it, if any: run_programs TITLE [WORD ..]
 run_programs() {
     echo "tests/c: $1"
     "${@:2}" "$work/commands" "$top/examples"
@@ -137,7 +139,8 @@ run_programs() {
     compare_logs "${@:2}"
 }
 
-# Builds the programs: build_programs COMPILER ARGUMENT .., where the compiler may have options
+# Builds the programs. COMPILER is a compiler, possibly with options, and the arguments are for linking: build_programs
+# COMPILER ARGUMENT ..
 build_programs() {
     local name
     # shellcheck disable=SC2086 # words of one argument

@@ -1,6 +1,8 @@
-/* Writes the output and the error message of hidlog_show, or of hidlog_transactions, for the log on standard input.
-   The first buffer has a few bytes, and grows while it is too small, so calls with small buffers are tested as well.
-   Usage: show [explain | transactions] */
+/* Prints the output of hidlog_show, or of hidlog_transactions, for the log on standard input, and the error message on
+ * standard error. Begins with a buffer of a few bytes, and calls again with a larger one while it is too small, so that
+ * calls with small buffers are tested as well.
+ *
+ *     show [explain | transactions] */
 #include "hidlog.h"
 
 #include <stdio.h>
@@ -10,9 +12,8 @@
 enum { MAX_LOG = 1 << 26, CANARY = 0xa5 };
 enum form { PLAIN, EXPLAINED, TRANSACTIONS };
 
-/* Reads standard input into allocated memory. */
-static uint8_t *read_log(size_t *size)
-{
+/* Reads the log from standard input into newly allocated memory. */
+static uint8_t *read_log(size_t *size) {
     uint8_t *bytes = malloc(MAX_LOG);
     if (!bytes) {
         perror("show");
@@ -22,10 +23,9 @@ static uint8_t *read_log(size_t *size)
     return bytes;
 }
 
-/* Shows the log in an allocated buffer of this capacity. A write past the buffer changes a canary byte, or is found by
-   a sanitizer. */
-static uint8_t *show(const uint8_t *log, size_t size, enum form form, size_t out_cap, struct hidlog_result *result)
-{
+/* Calls the function for this form, and returns its output in a newly allocated buffer of this capacity. Fails if the
+ * function changes the canary byte after the buffer; a sanitizer finds other writes past the buffer. */
+static uint8_t *show(const uint8_t *log, size_t size, enum form form, size_t out_cap, struct hidlog_result *result) {
     uint8_t *out = malloc(out_cap + 1);
     if (!out) {
         perror("show");
@@ -38,15 +38,15 @@ static uint8_t *show(const uint8_t *log, size_t size, enum form form, size_t out
         hidlog_show(log, size, form == EXPLAINED, out, out_cap, result);
     if (out[out_cap] != CANARY || result->written > out_cap || result->packet != 0 ||
         result->status > HIDLOG_LOG_ERROR) {
-        fprintf(stderr, "show: a call with capacity %zu wrote past the buffer, or returned an invalid result\n",
+        fprintf(stderr,
+                "show: a call with an output buffer of %zu bytes wrote past it, or returned an invalid result\n",
                 out_cap);
         exit(2);
     }
     return out;
 }
 
-int main(int count, char **words)
-{
+int main(int count, char **words) {
     enum form form = count < 2 ? PLAIN : strcmp(words[1], "transactions") ? EXPLAINED : TRANSACTIONS;
     size_t size, out_cap = 3, known = 0;
     uint8_t *log = read_log(&size), *before = malloc(1);
@@ -54,7 +54,9 @@ int main(int count, char **words)
     for (;;) {
         uint8_t *out = show(log, size, form, out_cap, &result);
         if (known > result.written || memcmp(before, out, known)) {
-            fprintf(stderr, "show: the output with the previous capacity is not a prefix of that with %zu\n", out_cap);
+            fprintf(stderr,
+                    "show: the output in a buffer of %zu bytes does not begin with the output in the smaller buffer\n",
+                    out_cap);
             return 2;
         }
         free(before);
@@ -64,8 +66,8 @@ int main(int count, char **words)
             break;
         if (known != out_cap || result.line != 0 || result.status != HIDLOG_LOG_ERROR) {
             fprintf(stderr,
-                    "show: BUFFER_TOO_SMALL with capacity %zu: expected a full buffer, line 0 and status %u, "
-                    "got %zu bytes, line %llu and status %u\n",
+                    "show: HIDLOG_ERR_BUFFER_TOO_SMALL for a buffer of %zu bytes: expected a full buffer, line 0 and "
+                    "status %u, got %zu bytes, line %llu and status %u\n",
                     out_cap, (unsigned)HIDLOG_LOG_ERROR, known, (unsigned long long)result.line, result.status);
             return 2;
         }

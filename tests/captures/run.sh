@@ -1,6 +1,6 @@
 #!/usr/bin/env bash
-# Tests the import and export of captures, the Wireshark dissector, the command `judge`, and recorded sessions as pytest
-# fixtures. Exits with 3 if a Debian package is missing.
+# Tests the import and export of USB captures, the Wireshark dissector, the command `hidlog judge`, and keys that replay a
+# recorded session (`SecurityKey.from_recording`). Exits with 3 if a Debian package is missing.
 #
 #     tests/captures/run.sh [ARGUMENT ..]      arguments of pytest
 set -euo pipefail

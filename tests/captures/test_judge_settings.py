@@ -219,7 +219,8 @@ def make_certificate(
 ) -> bytes:
     """Returns a certificate that is made with the package cryptography."""
     private = ec.generate_private_key(ec.SECP256R1())
-    name = x509.Name([x509.NameAttribute(kind, value) for kind, value in subject.items()])
+    # Newer versions of the package allow 64 bytes of UTF-8 in a common name; X.520 allows 64 characters.
+    name = x509.Name([x509.NameAttribute(kind, value, _validate=False) for kind, value in subject.items()])
     begun = datetime.datetime(2026, 1, 1)
     builder = x509.CertificateBuilder().subject_name(name).issuer_name(name).public_key(private.public_key())
     builder = builder.serial_number(2**100 + 1).not_valid_before(begun).not_valid_after(begun.replace(year=2060))

@@ -92,7 +92,7 @@ def test_loose_permissions_are_refused(work_dir: Path) -> None:
     state, old = make_state(work_dir)
     for mode in (0o640, 0o604, 0o620, 0o602, 0o666, 0o611):
         state.chmod(mode)
-        check_refused(state, f"permissions {mode:04o} are too open for a file with private keys: run chmod 600")
+        check_refused(state, f"this file with private keys: its permissions are {mode:04o}; run chmod 600")
     for mode in (0o600, 0o700, 0o400):
         state.chmod(mode)
         bridge = Bridge([UHID, str(state)])
@@ -221,7 +221,7 @@ def test_without_device_nothing_is_saved(work_dir: Path) -> None:
     node = state.stat().st_ino
     for path in (state, work_dir / "fresh.state"):
         said = subprocess.run([UHID, "-f", "99", str(path)], capture_output=True, text=True)
-        assert said.returncode == 1 and "cannot create the device: Bad file descriptor" in said.stderr, said
+        assert said.returncode == 1 and "cannot create the HID device: Bad file descriptor" in said.stderr, said
     assert state.read_bytes() == old and state.stat().st_ino == node and not (work_dir / "fresh.state").exists()
 
 

@@ -60,7 +60,7 @@ def plant_files(path: Path, other: Path) -> Iterator[str]:
         path.symlink_to(target)
         yield "the path must not be a symbolic link"
     os.link(other, path)
-    yield "the file has another hard link; remove this file or choose another path"
+    yield "the file has other names (hard links); remove this one or choose another path"
     os.mkfifo(path, 0o600)
     yield f"{path}: cannot open the file: No such device or address"
     path.mkdir()
@@ -68,7 +68,7 @@ def plant_files(path: Path, other: Path) -> Iterator[str]:
     for mode in (0o644, 0o660, 0o602):
         path.write_bytes(b"kept")
         path.chmod(mode)
-        yield f"permissions {mode:04o} are too open for a file with names of services and users: run chmod 600"
+        yield f"this file with names of services and users: its permissions are {mode:04o}; run chmod 600"
     if os.geteuid() == 0:
         path.write_bytes(b"kept")
         path.chmod(0o600)

@@ -74,7 +74,7 @@ def test_invalid_script_is_refused(work_dir: Path) -> None:
         ("granted 10 20\n", "line 1"),
         ("granted -1\n", "line 1"),
         ("granted 99999999999\n", "line 1"),
-        ("# nothing\n\n", "expected at least one granted, denied or timeout"),
+        ("# nothing\n\n", "expected at least one line with granted, denied or timeout"),
         ("granted\n" * 1001, "line 1001"),
     ):
         script.write_text(text)

@@ -1,10 +1,11 @@
 #!/usr/bin/env bash
-# Tests the bridges of bridges/uhid and bridges/ssh with invalid files, failing system calls and floods of packets. A
-# substitute replaces the kernel's device. Exits with 3 if a dependency is missing.
+# Tests the bridges of bridges/uhid and bridges/ssh with invalid files, failing system calls and floods of packets,
+# without /dev/uhid: a substitute in Python takes the place of the kernel's device. Exits with 3 if a dependency is
+# missing.
 #
-#     tests/clients/bridges.sh          bridge_cases.py, bridge_recordings.py, bridge_users.py, and failures of each
-#                                       call that accesses files
-#     tests/clients/bridges.sh --all    failures of each system call
+#     tests/clients/bridges.sh          runs bridge_cases.py, bridge_recordings.py, bridge_users.py, and bridge_faults.py,
+#                                       which lets each system call that accesses files fail
+#     tests/clients/bridges.sh --all    lets each other system call fail as well
 # shellcheck disable=SC1091,SC2154 # top, name and library are set by common.sh
 set -euo pipefail
 source "$(dirname "${BASH_SOURCE[0]}")/common.sh"

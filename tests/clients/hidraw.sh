@@ -1,11 +1,12 @@
 #!/usr/bin/env bash
-# Runs the conformance tests against a Linux kernel device: the key behind the bridge of bridges/uhid, in a virtual
-# machine, as /dev/hidrawN. The bridge simulates the touches, and hidraw_vm.sh unplugs and plugs in the key. Exits with
-# 3 if a dependency is missing. machine.sh starts the virtual machine, and documents its environment variables.
+# Runs the conformance tests in a virtual machine, against a Linux kernel device /dev/hidrawN that the bridge of
+# bridges/uhid creates. The bridge simulates the user's touches, and hidraw_vm.sh unplugs and plugs in the key. Exits
+# with 3 if a dependency is missing. machine.sh starts the virtual machine, and documents its environment variables.
 #
-#     tests/clients/hidraw.sh            five cases with power cycles, one minute
-#     tests/clients/hidraw.sh all        all cases, a quarter of an hour; set HIDLOG_SECONDS=3600
-#     tests/clients/hidraw.sh ARGUMENT ..    arguments of run.py
+#     tests/clients/hidraw.sh                runs five cases with power cycles, in a minute
+#     tests/clients/hidraw.sh all            runs all cases, in a quarter of an hour; set HIDLOG_SECONDS=3600, the time
+#                                            limit in seconds
+#     tests/clients/hidraw.sh ARGUMENT ..    runs conformance/run.py with these arguments
 # shellcheck disable=SC1091,SC2154 # top, name, root, work and image are set by common.sh and machine.sh
 set -euo pipefail
 source "$(dirname "${BASH_SOURCE[0]}")/common.sh"

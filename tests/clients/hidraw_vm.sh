@@ -1,6 +1,7 @@
 #!/bin/sh
-# The init program of the virtual machine of hidraw.sh: plugs the key in, runs the conformance tests, unplugs and plugs
-# in the key when the tests request it, and powers off. Lines for hidraw.sh begin with "@@ ".
+# The init program of the virtual machine that hidraw.sh boots: plugs the key in by starting the bridge, runs the
+# conformance tests, unplugs and plugs in the key when the tests ask for it, and powers off. hidraw.sh prints the lines
+# that begin with "@@ ".
 /bin/busybox --install -s /bin
 export PATH=/bin:/usr/bin HOME=/root PYTHONDONTWRITEBYTECODE=1
 mount -t proc proc /proc
@@ -22,8 +23,9 @@ is_unplugged() {
     [ ! -e /dev/hidraw0 ]
 }
 
-# The simulated user touches the key after more than a second, since the cases check what happens before the touch. The
-# kernel queues 64 packets of a hidraw device and drops others, so the runner has priority over the bridge.
+# Starts the bridge, which plugs the key in. The simulated user touches the key only after 1.5 s, since the cases check
+# what happens before the touch. The bridge has a low priority, so that the test runner reads packets in time: the
+# kernel queues only 64 packets of a hidraw device, and drops more.
 plug_in() {
     /usr/bin/nice -n 19 uhid -t 1500 key.state 2>>bridge.err &
     bridge=$!

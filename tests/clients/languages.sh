@@ -1,8 +1,9 @@
 #!/usr/bin/env bash
-# Creates a key, sends INIT and prints the response from C, Go, Rust and C++; then tests the Go module and the Rust
-# crates from their packages, as in their READMEs. Skips, and lists, languages that are not installed. Downloads nothing.
+# Tests the C library with programs in C, Go, Rust and C++, which create a key, send INIT and print the response. Then
+# tests the Go module and the Rust crates with their packages, as their READMEs describe. If a language is not
+# installed, prints that it is skipped. Downloads nothing.
 #
-#     tests/clients/languages.sh [arm64]      arm64: also build the Go module's tests for arm64 and run them in qemu
+#     tests/clients/languages.sh [arm64]      with arm64, also runs the Go module's tests for arm64 in qemu
 # shellcheck disable=SC1091,SC2154 # top, name and library are set by common.sh
 set -euo pipefail
 source "$(dirname "${BASH_SOURCE[0]}")/common.sh"
@@ -10,18 +11,18 @@ require_commands gcc "gcc libc6-dev" nm binutils
 require_in_memory_key
 work=$(mktemp -d)
 trap 'rm -rf "$work"' EXIT
-# The expected data: the nonce, channel 1, protocol version 2, device version 1.0.0, capabilities CBOR and NMSG, and
-# zeros.
+# The expected response packet: INIT on the broadcast channel with 17 bytes, which are the nonce, channel 1, protocol
+# version 2, device version 1.0.0 and the capabilities CBOR and NMSG. Zeros follow.
 expected=$(printf '%-128s' ffffffff860011010203040506070800000001020100000c | tr ' ' 0)
 machine=${1-}
 ran=0
 
-# Checks whether a language is installed; if not, lists the language as skipped: is_installed LANGUAGE COMMAND PACKAGE
+# Returns whether a command exists. If not, prints that LANGUAGE is skipped: is_installed LANGUAGE COMMAND PACKAGE
 is_installed() {
     command -v "$2" >/dev/null || { echo "$name: $1 is skipped, since $2 is missing (apt-get install $3)" && false; }
 }
 
-# Runs a program and compares its output: run_and_compare LANGUAGE VERSION PROGRAM ..
+# Runs a program, and compares its output with the expected response: run_and_compare LANGUAGE VERSION PROGRAM ..
 run_and_compare() {
     local response
     response=$("${@:3}")
@@ -30,18 +31,18 @@ run_and_compare() {
     ran=$((ran + 1))
 }
 
-# Tests the Go module as bindings/go/README.md describes: creates a new module with the README's test, and installs the
-# package from a folder that serves as module proxy. Then runs the cases recorded from Chromium, the package's own tests,
-# and `go vet`: test_go_module PACKAGES FOLDER
+# Tests the Go module as bindings/go/README.md describes: creates a new module with the README's test, which installs
+# the Go module from the zip in PACKAGES. Then makes the calls that were recorded from Chromium (browser_cases.py), and
+# runs the module's own tests and `go vet`. FOLDER is for temporary files: test_go_module PACKAGES FOLDER
 test_go_module() (
     packages=$1 work=$2
-    # The README's commands; GONOSUMDB prevents queries to the checksum database.
+    # GONOSUMDB prevents that go asks the checksum database for the module.
     export GOCACHE=$work/cache GOPATH=$work/path GOFLAGS="-p=2 -modcacherw" GONOSUMDB=cogtzil.example GOTOOLCHAIN=local CGO_ENABLED=1 GO111MODULE=on
     export HIDLOG_PROGRAM=$top/release/hidlog
     cd "$work"
     cp "$packages"/hidlog-go-*.zip .
     file=$(basename hidlog-go-*.zip .zip)
-    # Run the README's lines below "Install", with the version of the file.
+    # Run the commands below "Install" in the README, with the version that the zip's name has.
     sed -n '/^## Install/,/^## A test/s/^    //p' "$top/bindings/go/README.md" | grep -v '^go get' |
         sed "s/0\.2\.0/${file#hidlog-go-}/g" >install.sh
     # shellcheck disable=SC1091 # it is generated above
@@ -66,8 +67,9 @@ test_go_module() (
 )
 
 # Tests the Rust crates as bindings/rust/hidlog/README.md describes: creates a new crate with the README's test, and
-# unpacks the packages beside it. Then runs the cases recorded from Chromium, the tests of the crate hidlog, with and
-# without OpenSSL, and clippy and rustfmt if they are installed: test_rust_crates PACKAGES FOLDER
+# unpacks the crates in PACKAGES beside it. Then makes the calls that were recorded from Chromium (browser_cases.py),
+# and runs the tests of the crate hidlog with and without OpenSSL, and clippy and rustfmt if they are installed. FOLDER
+# is for temporary files: test_rust_crates PACKAGES FOLDER
 test_rust_crates() (
     packages=$1 work=$2
     export CARGO_TARGET_DIR=$work/target CARGO_NET_OFFLINE=true CARGO_BUILD_JOBS=2 HIDLOG_PROGRAM=$top/release/hidlog
@@ -91,8 +93,8 @@ test_rust_crates() (
         echo "Rust crate${words:+, $words}: $(grep -c '^test .* ok$' "$work/output") tests passed"
     done
     if cargo clippy --version >/dev/null 2>&1; then
-        # Debian 13's clippy warns about format! in an iterator; newer versions do not.
-        cargo clippy --quiet --offline --all-targets -- -D warnings -A unknown-lints -A clippy::format-collect
+        # Debian 12's clippy is wrong about a clone that is used, and about threads that are started before any is joined.
+        cargo clippy --quiet --offline --all-targets -- -D warnings -A clippy::redundant-clone -A clippy::needless-collect
     fi
     if cargo fmt --version >/dev/null 2>&1; then
         (cd "$top/bindings/rust/hidlog-sys" && cargo fmt --check) && (cd "$top/bindings/rust/hidlog" && cargo fmt --check)
@@ -118,7 +120,7 @@ if is_installed C++ g++ g++; then
     run_and_compare C++ "g++ $(g++ -dumpfullversion)" ./cpp_init
 fi
 
-# Tests the Go module and the Rust crates with their languages' tools.
+# Builds the packages, and tests the Go module and the Rust crates if go and cargo are installed.
 if command -v dpkg-deb >/dev/null && /usr/bin/python3 -c 'import hatchling' 2>/dev/null; then
     "$top/packages/build.sh" "$work/packages" >/dev/null
     if is_installed "the Go module" go golang-go; then

@@ -1,6 +1,6 @@
 #!/usr/bin/env bash
-# Registers and signs in with libfido2, whose I/O callbacks access an in-memory key in C. If clang-format is installed,
-# also checks the format of the C examples. Exits with 3 if a dependency is missing.
+# Runs the C example libfido2.c, which registers and signs in with libfido2 and an in-memory key. If clang-format is
+# installed, also checks the format of the C examples. Exits with 3 if a dependency is missing.
 # shellcheck disable=SC1091,SC2154 # top, name and library are set by common.sh
 set -euo pipefail
 source "$(dirname "${BASH_SOURCE[0]}")/common.sh"

@@ -1,11 +1,11 @@
 # shellcheck shell=bash
-# A virtual machine in which the bridge of bridges/uhid provides the key as a kernel device: software emulation, a
-# Debian kernel, and an initramfs that is built here. Source this file after common.sh.
+# Functions that build and boot a virtual machine in which the bridge of bridges/uhid makes the key a kernel device. The
+# virtual machine is emulated by qemu, and has a Debian kernel and an initramfs. Source this file after common.sh.
 #
-#     HIDLOG_KERNEL=FOLDER    an unpacked linux-image (default: the installed one, or the one that tests/run --install
-#                             unpacked in /var/cache/hidlog/kernel or ~/.cache/hidlog/kernel, or else downloaded by
-#                             apt-get, 70 MB)
-#     HIDLOG_OFFLINE=1        do not download
+#     HIDLOG_KERNEL=FOLDER    use the kernel in FOLDER, an unpacked linux-image package [default: the installed kernel, or
+#                             the one that tests/run --install unpacked in /var/cache/hidlog/kernel or
+#                             ~/.cache/hidlog/kernel, or one that apt-get downloads, 70 MB]
+#     HIDLOG_OFFLINE=1        do not download a kernel
 # shellcheck disable=SC2154 # top, name and library are set by common.sh
 PATH=$PATH:/usr/sbin:/sbin
 require_commands gcc "gcc libc6-dev" nm binutils qemu-system-x86_64 qemu-system-x86 busybox busybox-static cpio cpio xz xz-utils \
@@ -19,7 +19,8 @@ work=$(mktemp -d)
 trap 'rm -rf "$work"' EXIT
 root=$work/root
 
-# Sets image and modules to those of a folder. Fails if the folder has no vmlinuz or no uhid.ko: select_kernel FOLDER
+# Selects the kernel in a folder: sets $image to the kernel's file, and $modules to the folder of its HID modules. Fails
+# if there is no kernel, or it has no module uhid: select_kernel FOLDER
 select_kernel() {
     image=$(find "$1/boot" -name 'vmlinuz-*' 2>/dev/null | sort -V | tail -1)
     modules=$1/lib/modules/${image##*/vmlinuz-}/kernel/drivers/hid
@@ -27,11 +28,11 @@ select_kernel() {
     [ -n "$image" ] && [ -r "$image" ] && compgen -G "$modules/uhid.ko*" >/dev/null
 }
 
-# Finds a kernel with uhid, or downloads one, and sets image and modules. Skips the test if there is none.
+# Selects an installed or unpacked kernel that has the module uhid, or downloads one. Exits with 3 if there is none.
 find_kernel() {
     local package
     if [ -n "${HIDLOG_KERNEL-}" ]; then
-        select_kernel "$HIDLOG_KERNEL" || exit_skipped "HIDLOG_KERNEL has no kernel with uhid"
+        select_kernel "$HIDLOG_KERNEL" || exit_skipped "HIDLOG_KERNEL=$HIDLOG_KERNEL has no kernel with the module uhid"
     elif ! select_kernel "" && ! select_kernel /var/cache/hidlog/kernel &&
         ! select_kernel "${XDG_CACHE_HOME:-${HOME-}/.cache}/hidlog/kernel"; then
         [ -z "${HIDLOG_OFFLINE-}" ] || exit_skipped "no kernel with uhid is installed (tests/run --install)"
@@ -42,7 +43,8 @@ find_kernel() {
     fi
 }
 
-# Copies programs and libraries, with the libraries on which they depend, to the same paths in the virtual machine.
+# Copies programs and libraries, and the libraries that they need, to the same paths in the virtual machine:
+# copy_programs FILE ..
 copy_programs() {
     local file needed
     for file in "$@"; do
@@ -52,8 +54,9 @@ copy_programs() {
     done
 }
 
-# Copies Debian's Python, the modules that a script on standard input imports (except from conformance/), and the
-# OpenSSL module that python3-cryptography loads. Each FOLDER is added to the module search path: copy_python FOLDER ..
+# Copies Debian's Python to the virtual machine, with all modules that the script on standard input imports (except
+# those in conformance/), and the OpenSSL module that python3-cryptography loads. Python finds modules in each FOLDER,
+# too: copy_python FOLDER ..
 copy_python() {
     local files
     mapfile -t files < <(
@@ -62,19 +65,19 @@ copy_python() {
             '    if path and path.startswith("/") and "/conformance/" not in path:' '        print(path)'; } |
             PYTHONDONTWRITEBYTECODE=1 PYTHONPATH=$(IFS=: && echo "$*") /usr/bin/python3 -
     )
-    [ ${#files[@]} -gt 1 ] || { echo "$name: /usr/bin/python3 cannot import the modules of the script" >&2 && exit 1; }
+    [ ${#files[@]} -gt 1 ] || { echo "$name: /usr/bin/python3 cannot import the modules for the virtual machine" >&2 && exit 1; }
     copy_programs "${files[@]}" "$(find /usr/lib -name legacy.so -path '*ossl-modules*' | head -1)"
 }
 
-# Builds the initramfs of the test's virtual machine: kernel modules, busybox and hidlog-uhid. INIT is the script of this
-# folder that runs as init: build_initramfs INIT
+# Fills $root, the folder from which boot_machine makes the initramfs, with kernel modules, busybox, hidlog and the
+# bridge. The script INIT of this folder becomes the init program: build_initramfs INIT
 build_initramfs() {
     local parts module file
     find_kernel
     parts=("$top"/bridges/uhid/{uhid,packet_queue,user,options}.c "$top/bridges/ssh/state.c"
         "$top"/examples/c/{virtual_key,private_file,software_keys,snapshot}.c)
     mkdir -p "$root"/{bin,dev,etc/pam.d,modules,proc,root,sys,tmp}
-    # AddressSanitizer and UndefinedBehaviorSanitizer end the bridge at the first error, with a status other than 0.
+    # Compile the bridge with sanitizers that end it at the first error, with an exit status other than 0.
     compile -g -fsanitize=address,undefined -fno-sanitize-recover=all -I "$top/bridges/ssh" -o "$root/bin/uhid" \
         "${parts[@]}" "$library/libhidlog.a" -lcrypto
     cp "$(command -v busybox)" "$root/bin/busybox"
@@ -91,9 +94,10 @@ build_initramfs() {
     chmod 1777 "$root/tmp"
 }
 
-# Boots the virtual machine, and prints the lines of its console that begin with "@@ ": boot_machine SECONDS
+# Boots the virtual machine, waits until it powers off, and prints the lines of its console that begin with "@@ ". Fails
+# if a case failed, or if it takes more than SECONDS: boot_machine SECONDS
 boot_machine() {
-    # Uses TCG, since KVM is not always available. The virtual machine powers itself off, and exits if the kernel
+    # Emulate the processor (TCG), since KVM is not always available. With these options, qemu also exits if the kernel
     # panics.
     local machine=(-accel tcg -cpu max -m 512 -nic none -display none -monitor none -serial stdio -no-reboot)
     (cd "$root" && find . | cpio -o -H newc --quiet -R 0:0 | gzip -1) >"$work/initramfs"

@@ -1,8 +1,8 @@
 #!/usr/bin/env bash
-# Records how clients use a kernel device in a virtual machine, for the conformance tests: libfido2's tools,
-# python-fido2, OpenSSH and pam-u2f. Each recording is a log of the bridge of bridges/uhid, and starts with a key
-# without credentials. Exits with 3 if a dependency is missing. machine.sh starts the virtual machine, and documents its
-# environment variables.
+# Records how clients use a security key, for the conformance tests. The clients run in a virtual machine with a key
+# that is a kernel device: libfido2's tools, python-fido2, OpenSSH and pam-u2f. Each recording is a log of the bridge of
+# bridges/uhid, and starts with a key without credentials. Exits with 3 if a dependency is missing. machine.sh starts
+# the virtual machine, and documents its environment variables.
 #
 #     tests/clients/record.sh FOLDER    write trimmed recordings FOLDER/NAME.log, as in conformance/recorded
 # shellcheck disable=SC1091,SC2154 # top, name, root, work and image are set by common.sh and machine.sh

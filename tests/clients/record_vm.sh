@@ -1,6 +1,7 @@
 #!/bin/sh
-# The init program of the virtual machine of record.sh: plugs in a key without credentials for each client, runs the client,
-# and writes the recording to the console. Lines for record.sh begin with "@@ " or "@log ".
+# The init program of the virtual machine that record.sh boots: for each client, plugs in a key without credentials,
+# runs the client, and writes the recording to the console, each line after "@log CLIENT". record.sh prints the lines
+# that begin with "@@ ".
 /bin/busybox --install -s /bin
 export PATH=/bin:/usr/bin HOME=/root PYTHONDONTWRITEBYTECODE=1
 mount -t proc proc /proc
@@ -22,7 +23,7 @@ is_unplugged() {
     [ ! -e "$device" ]
 }
 
-# Runs a command with a new key, and prints the key's recording: record_client NAME COMMAND ..
+# Runs a client with a new key, and prints the key's recording: record_client CLIENT COMMAND ..
 record_client() {
     log=$1
     shift
@@ -46,7 +47,7 @@ print_random() {
     head -c 32 /dev/urandom | base64
 }
 
-# Registers with libfido2's tools: register NAME OPTIONS ..
+# Registers a credential for a user with fido2-cred, and verifies it: register USER OPTION ..
 register() {
     user=$1
     shift
@@ -55,7 +56,7 @@ register() {
         sed 1d "$user.public" >"$user.pem"
 }
 
-# Signs in with libfido2's tools, with two of their options: sign_in NAME OPTION OPTION
+# Signs in as a user with fido2-assert and two of its options, and verifies the assertion: sign_in USER OPTION OPTION
 sign_in() {
     { print_random && echo relying.example && head -1 "$1.public"; } >"$1.asked"
     fido2-assert -G "$2" "$3" -i "$1.asked" "$device" >"$1.answer" && fido2-assert -V -i "$1.answer" "$1.pem" es256

@@ -1,4 +1,5 @@
-// Calls the OpenSSH security key provider of bridges/ssh as ssh-sk-helper does, for tests/clients/bridge_faults.py:
+// Calls the functions of the OpenSSH security key provider in bridges/ssh, as OpenSSH's ssh-sk-helper does, for
+// tests/clients/bridge_faults.py:
 //
 //     sk_call enroll         prints the key handle in hex
 //     sk_call sign HANDLE    prints the signature counter
@@ -10,14 +11,14 @@
 #include <stdlib.h>
 #include <string.h>
 
-static const uint8_t data[32] = "what is signed, or its challenge";
+static const uint8_t data[32] = "a challenge, or the data to sign";
 
 static int report_error(int result) {
-    fprintf(stderr, "sk_call: the provider returned error %d\n", result);
+    fprintf(stderr, "sk_call: the provider returned the error code %d (sk_api.h)\n", result);
     return 1;
 }
 
-// Ends the line of output, and flushes it. Returns 1 on failure.
+// Ends the line on standard output, and flushes it. Returns the exit status: 0, or 1 after an error.
 static int finish_output(void) {
     if (puts("") < 0 || fflush(stdout) != 0) {
         perror("sk_call: standard output");

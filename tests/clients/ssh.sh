@@ -1,6 +1,7 @@
 #!/usr/bin/env bash
-# Tests OpenSSH with a software key: builds libhidlog_sk.so of bridges/ssh, generates keys with ssh-keygen, signs in to
-# an sshd on the loopback address, downloads resident keys, and signs a file. Exits with 3 if a dependency is missing.
+# Tests OpenSSH with the security key provider of bridges/ssh: builds libhidlog_sk.so, generates keys with ssh-keygen,
+# signs in to an sshd on the loopback address, downloads resident keys, and signs a file. Exits with 3 if a dependency
+# is missing.
 # shellcheck disable=SC1091,SC2154 # top, name and library are set by common.sh
 set -euo pipefail
 source "$(dirname "${BASH_SOURCE[0]}")/common.sh"
@@ -11,7 +12,7 @@ require_header fido.h libfido2-dev
 require_header openssl/evp.h libssl-dev
 require_in_memory_key
 work=$(mktemp -d)
-# OpenSSH looks up its user by name. If the user has no passwd entry, as in a container, nss_wrapper provides one.
+# OpenSSH needs the user's name. If the user has no entry in /etc/passwd, as in a container, nss_wrapper provides one.
 if ! id -un >/dev/null 2>&1; then
     wrapper=$(ls /usr/lib/*/libnss_wrapper.so 2>/dev/null) ||
         exit_skipped "libnss-wrapper is missing, for a user without a name (apt-get install libnss-wrapper)"
@@ -21,7 +22,7 @@ fi
 server=
 made_run=
 
-# Stops sshd, and removes the files of the test.
+# Stops sshd, and removes the files that the test created.
 clean_up() {
     if [ -n "$server" ]; then
         kill "$server" 2>/dev/null || true
@@ -42,35 +43,35 @@ compile -shared -fPIC -fvisibility=hidden -o libhidlog_sk.so "${parts[@]}" "$lib
 export SSH_SK_PROVIDER=$work/libhidlog_sk.so HIDLOG_SK_STATE=$work/key.state
 unset SSH_AUTH_SOCK SSH_ASKPASS DISPLAY
 
-# Runs a command that must succeed: expect_success TEXT COMMAND ..
+# Runs a command that must succeed, and prints the last line of its output: expect_success CASE COMMAND ..
 expect_success() {
     "${@:2}" >output 2>&1 </dev/null || { cat output && fail "$1: failed with status $?"; }
     echo "$name: $1: $(tail -1 output)"
 }
 
-# Runs a command that must fail with a message: expect_failure TEXT MESSAGE COMMAND ..
+# Runs a command that must fail and print a message: expect_failure CASE MESSAGE COMMAND ..
 expect_failure() {
     if "${@:3}" >output 2>&1 </dev/null; then
         cat output
-        fail "$1: expected a failure"
+        fail "$1: the command succeeded, but must fail"
     fi
     grep -q "$2" output || { cat output && fail "$1: expected the message: $2"; }
     echo "$name: $1: $(grep "$2" output | tail -1)"
 }
 
-# Generates a key with ssh-keygen: generate_key FILE OPTIONS ..
+# Generates a key pair with ssh-keygen, and prints its fingerprint: generate_key FILE OPTION ..
 generate_key() {
     ssh-keygen -q -N '' -C hidlog -f "$1" "${@:2}" && ssh-keygen -lf "$1.pub"
 }
 
-# Signs in with a key: sign_in FILE
+# Signs in to sshd with the key in a file: sign_in FILE
 sign_in() {
     ssh -F none -i "$1" -p "$port" -o IdentitiesOnly=yes -o BatchMode=yes -o PreferredAuthentications=publickey \
-        -o UserKnownHostsFile="$work/known" -o StrictHostKeyChecking=yes -o ConnectTimeout=20 \
+        -o UserKnownHostsFile="$work/known" -o StrictHostKeyChecking=yes -o ConnectTimeout=600 \
         -o "SecurityKeyProvider=$SSH_SK_PROVIDER" "$(id -un)@127.0.0.1" whatever
 }
 
-# Starts sshd on a free port.
+# Starts sshd on a random port, and tries up to five ports.
 start_server() {
     local tries=0
     if [ "$(id -u)" = 0 ] && [ ! -d /run/sshd ]; then
@@ -82,10 +83,12 @@ start_server() {
         port=$((20000 + RANDOM))
         printf '%s\n' "ListenAddress 127.0.0.1:$port" "HostKey $work/host" "AuthorizedKeysFile $work/authorized" \
             "PidFile none" "UsePAM no" "StrictModes no" "PasswordAuthentication no" "PermitRootLogin yes" \
-            "KbdInteractiveAuthentication no" "ForceCommand echo signed in" >sshd_config
+            "KbdInteractiveAuthentication no" "LoginGraceTime 0" "ForceCommand echo signed in" >sshd_config
         "$(command -v sshd)" -D -e -f sshd_config 2>server.log &
         server=$!
-        for _ in $(seq 50); do
+        # Wait until sshd listens, or exits because the port is in use. The limit of ten minutes is for an sshd that
+        # hangs.
+        for _ in $(seq 6000); do
             if grep -qs "Server listening" server.log; then
                 echo "[127.0.0.1]:$port $(cut -d' ' -f1,2 host.pub)" >known
                 return

@@ -1,8 +1,8 @@
 #!/usr/bin/env bash
 # Tests the key as a Linux kernel device: builds the bridge of bridges/uhid and runs it in a virtual machine, where
-# libfido2's tools, ssh-keygen and pam-u2f register and sign in. The cases are in uhid_vm.sh; machine.sh starts the
-# virtual machine. The host's /dev/uhid is not used. Takes 90 s on an idle machine. Exits with 3 if a dependency is
-# missing.
+# libfido2's tools, ssh-keygen and pam-u2f register and sign in with the key. uhid_vm.sh has the test cases, and
+# machine.sh starts the virtual machine. This machine's own /dev/uhid is not used. Takes 90 s on an idle machine. Exits
+# with 3 if a dependency is missing.
 # shellcheck disable=SC1091,SC2154 # top, name, library, root and image are set by common.sh and machine.sh
 set -euo pipefail
 source "$(dirname "${BASH_SOURCE[0]}")/common.sh"

@@ -1,11 +1,14 @@
 #!/usr/bin/env bash
-# Installs the Debian package hidlog-uhid in a new Debian system, and boots the system in a virtual machine with systemd
-# and udev. There libfido2's tools, OpenSSH and unmodified browsers use the key; the cases are in uhid_package_vm.sh.
-# Takes 15 minutes with software emulation. Needs root, debootstrap, a Debian mirror, e2fsprogs, qemu-system-x86 and
-# busybox-static. Exits with 3 if a dependency is missing.
+# Tests the Debian package hidlog-uhid: installs it in a new Debian system, and boots the system in an emulated virtual
+# machine, with systemd and udev. There libfido2's tools, OpenSSH and unmodified browsers use the key;
+# uhid_package_vm.sh has the test cases. Takes 15 minutes. Needs root, debootstrap, a Debian mirror, e2fsprogs,
+# qemu-system-x86 and busybox-static. Exits with 3 if a dependency is missing.
 #
-#     tests/clients/uhid_package.sh FOLDER [PACKAGES]    FOLDER is reused; PACKAGES [default: built]
-#     HIDLOG_CASES="package firefox chromium"            the cases [default: all except chromium, which is too slow]
+#     tests/clients/uhid_package.sh FOLDER [PACKAGES]
+#
+# FOLDER is for the Debian system, and is used again by the next run. PACKAGES is the output of packages/build.sh
+# [default: builds the packages]. HIDLOG_CASES lists the cases to run: package, firefox and chromium [default: all
+# except chromium, which is too slow].
 # shellcheck disable=SC1091,SC2154 # top, name, work and image are set by common.sh and machine.sh
 set -euo pipefail
 source "$(dirname "${BASH_SOURCE[0]}")/common.sh"
@@ -23,7 +26,7 @@ if [ -z "$packages" ]; then
 fi
 system=$folder/root
 
-# Runs commands in the new system by chroot: run_in_system COMMANDS
+# Runs shell commands in the new system with chroot, and fails if they fail: run_in_system COMMANDS
 run_in_system() {
     chroot "$system" /usr/bin/env -i PATH=/usr/sbin:/usr/bin:/sbin:/bin LANG=C.UTF-8 DEBIAN_FRONTEND=noninteractive \
         bash -euc "$1" >"$folder/inside.log" 2>&1 || { tail -20 "$folder/inside.log" && fail "this failed in the system: $1"; }
@@ -38,7 +41,7 @@ if [ ! -e "$system/.whole" ]; then
     touch "$system/.whole"
 fi
 find_kernel
-# Removes the package of an earlier run, if any, and installs the new package with apt-get.
+# Remove the package that an earlier run has installed, if any, and install the new package with apt-get.
 rm -rf "$system/packages"
 mkdir "$system/packages"
 cp "$packages"/hidlog_*_amd64.deb "$packages"/hidlog-uhid_*_amd64.deb "$system/packages"
@@ -66,7 +69,7 @@ mkdir -p "$system/lib/modules/$release/kernel/drivers"
 cp -r "$modules" "$system/lib/modules/$release/kernel/drivers/"
 run_in_system "depmod $release"
 
-# The init program: loads the disk's driver, and starts systemd from the disk.
+# Write the init program of the initramfs: it loads the drivers for the disk, and starts systemd from the disk.
 mkdir -p "$root"/{bin,modules,proc,dev,new}
 cp "$(command -v busybox)" "$root/bin/busybox"
 order=(virtio/virtio_ring virtio/virtio virtio/virtio_pci_legacy_dev virtio/virtio_pci_modern_dev virtio/virtio_pci

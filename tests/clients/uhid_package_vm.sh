@@ -1,10 +1,11 @@
 #!/bin/bash
-# The cases of uhid_package.sh, run in the virtual machine by systemd: libfido2's tools, OpenSSH and browsers use the
-# installed package as a user other than root. Lines for uhid_package.sh begin with "@@ ".
+# The test cases of uhid_package.sh, which systemd runs in the virtual machine: libfido2's tools, OpenSSH and browsers
+# use the key of the installed package hidlog-uhid, as a user other than root. For each case, prints a line for
+# uhid_package.sh: "@@ ok CASE" or "@@ FAILED CASE".
 cd /home/tester || exit
 PATH=/usr/sbin:/usr/bin:/sbin:/bin
 
-# Prints the result of a case: print_result STATUS TEXT
+# Prints whether a case succeeded, and the end of the file `out`, its output, if it failed: print_result STATUS CASE
 print_result() {
     if [ "$1" = 0 ]; then
         echo "@@ ok $2, $(cut -d. -f1 /proc/uptime) s after the start"
@@ -14,13 +15,13 @@ print_result() {
     fi
 }
 
-# Runs a command that must succeed: expect_success TEXT COMMAND ..
+# Runs a command that must succeed, and prints the result of the case: expect_success CASE COMMAND ..
 expect_success() {
     "${@:2}" >out 2>&1 </dev/null
     print_result "$?" "$1"
 }
 
-# Runs a command as the user, who is in the group plugdev: run_as_tester COMMAND ..
+# Runs a command as the user tester, who is in the group plugdev: run_as_tester COMMAND ..
 run_as_tester() {
     setpriv --reuid=tester --regid=tester --init-groups env HOME=/home/tester "$@"
 }
@@ -42,12 +43,12 @@ stop_service() {
     systemctl stop "hidlog-uhid@$1" && ! systemctl is-failed "hidlog-uhid@$1" && wait_until test ! -e /dev/hidraw0
 }
 
-# Checks whether the udev rule has given the device to the group plugdev.
+# Returns whether the package's udev rule lets the group plugdev read and write the device.
 is_owned_by_plugdev() {
     udevadm settle && stat -c '%a %G' /dev/hidraw0 && [ "$(stat -c '%a %G' /dev/hidraw0)" = "660 plugdev" ]
 }
 
-is_listed() {
+is_key_listed() {
     run_as_tester fido2-token -L | tee out | grep 'vendor=0x1209, product=0x0001'
 }
 
@@ -73,8 +74,8 @@ sign_with_ssh() {
         ssh-keygen -Y verify -f signers -I hidlog -n file -s text.sig <text
 }
 
-# Checks the user, capabilities and system call filter of the service, and that only the service's user may open
-# /dev/uhid.
+# Checks that the service runs as the user hidlog-uhid, without capabilities and with a system call filter, and that
+# only this user and root may open /dev/uhid and the state file.
 check_confinement() {
     start_service alice && pid=$(systemctl show -P MainPID hidlog-uhid@alice) && cat "/proc/$pid/status" || return
     [ "$(stat -c %U "/proc/$pid")" = hidlog-uhid ] && [ "$(stat -c '%a %G' /dev/uhid)" = "660 hidlog-uhid" ] &&
@@ -82,12 +83,12 @@ check_confinement() {
         [ "$(stat -c '%a %U' /var/lib/hidlog-uhid/alice.state)" = "600 hidlog-uhid" ] && stop_service alice
 }
 
-# Starts the service with files owned by root, since older versions ran as root.
+# Starts the service with files that belong to root, as older versions of the package left them.
 start_with_root_files() {
     chown -R root:root /var/lib/hidlog-uhid /var/log/hidlog-uhid && start_service alice && sign_in && stop_service alice
 }
 
-# Runs the service with a script that denies the first touch and grants all others.
+# Runs the service with a presence script that denies the first touch and grants all others.
 run_presence_script() {
     printf 'denied\ngranted\n' >/etc/hidlog-script
     echo 'HIDLOG_UHID_OPTIONS="--presence script:/etc/hidlog-script --touch 50"' >/etc/default/hidlog-uhid
@@ -97,8 +98,8 @@ run_presence_script() {
     return "$status"
 }
 
-# Runs the bridge with --presence ask, and grants the touch by typing y.
-touch_on_terminal() {
+# Runs hidlog-uhid with --presence ask, and writes y to its standard input when it asks for a touch.
+touch_by_typing() {
     mkfifo typed
     hidlog-uhid --presence ask --state asked.state <typed 2>asking &
     bridge=$!
@@ -108,7 +109,8 @@ touch_on_terminal() {
     register && kill "$bridge" && wait "$bridge"
 }
 
-# Opens a page that registers and signs in with an unmodified browser. The service verifies the responses.
+# Runs an unmodified browser, which opens a page that registers and signs in with the key. A web server verifies the
+# responses: run_browser BROWSER
 run_browser() {
     timeout 900 python3 /usr/local/lib/hidlog-browser.py "$@"
 }
@@ -121,11 +123,11 @@ check_recording() {
 
 rm -f /home/tester/out
 touch out && chown tester /home/tester /home/tester/*
-# Runs the cases that need no browser.
+# Runs all cases that need no browser.
 run_package_cases() {
     expect_success "systemctl start hidlog-uhid@alice, of the package" start_service alice
     expect_success "udev gives the device to the group plugdev" is_owned_by_plugdev
-    expect_success "fido2-token -L, as a user" is_listed
+    expect_success "fido2-token -L, as a user" is_key_listed
     expect_success "fido2-cred registers" register
     expect_success "fido2-assert signs in" sign_in
     expect_success "ssh-keygen -t ecdsa-sk, -Y sign and -Y verify" sign_with_ssh
@@ -139,7 +141,7 @@ run_package_cases() {
     expect_success "hidlog check of the second recording, which begins with a snapshot" check_recording alice
     expect_success "--presence script denies the first touch" run_presence_script
     expect_success "hidlog check of that recording" check_recording bob
-    expect_success "--presence ask" touch_on_terminal
+    expect_success "--presence ask" touch_by_typing
 }
 
 read -ra parts </etc/hidlog-cases

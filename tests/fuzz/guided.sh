@@ -1,17 +1,17 @@
 #!/usr/bin/env bash
 # Runs the coverage-guided fuzzers, for SECONDS each: tests/fuzz/guided.sh SECONDS [NAME ..]
 #
-#     key      the functions on an in-memory key, compared with `hidlog_replay` for the same inputs (key_fuzz.c)
-#     log      the commands on a whole log (log_fuzz.c)
-#     state    the state files of the bridges (state_fuzz.c)
+#     key      the functions of an in-memory key, compared with hidlog_replay for the same inputs (key_fuzz.c)
+#     log      the command functions, which read a whole log (log_fuzz.c)
+#     state    the bridges' state files (state_fuzz.c)
 #     readers  the Python decoders of the package and of the conformance runner (readers.py)
-#     page     the state of the key in a page (page_state.mjs)
+#     page     the saved state of a key in a web page (page_state.mjs)
 #
-# The core is release/hidlog.wasm, translated to C by wasm2c and compiled with the fuzzer. HIDLOG_CORPUS=FOLDER is a
-# folder for findings and for inputs that reached new code [default: a temporary folder, which is deleted]. The next
-# run starts with these inputs, and tests/fuzz/seeds.py --keep adds them to corpus.tsv. The seeds are corpus.tsv and the
-# logs of this repository. Each fuzzer stops at its first finding, and the next one starts. Exits with 1 if there is a
-# finding, and with 3 if a dependency is missing.
+# The first two fuzz the verified core: release/hidlog.wasm, which wasm2c translates to C. A fuzzer starts with the
+# inputs in corpus.tsv and the logs of this repository. It saves inputs that reach new code, and findings, in the folder
+# $HIDLOG_CORPUS [default: a temporary folder, which is deleted], from which the next run starts as well;
+# tests/fuzz/seeds.py --keep adds these inputs to corpus.tsv. Each fuzzer stops at its first finding, and the next one
+# starts. Exits with 1 if there is a finding, and with 3 if a dependency is missing.
 set -euo pipefail
 top=$(cd "$(dirname "${BASH_SOURCE[0]}")/../.." && pwd)
 print_usage() {
@@ -29,17 +29,22 @@ work=$(mktemp -d)
 trap 'rm -rf "$work"' EXIT
 found=${HIDLOG_CORPUS:-$work/found}
 mkdir -p "$found"
-wasm2c=/usr/share/wabt/wasm2c
+# The runtime of wasm2c, and its options: each access checks the bounds of the memory. In wabt 1.0.36, which is in Debian
+# 13, the runtime has more files and other options, and the module needs no initialization.
+wasm2c=/usr/src/wasm2c
+bounds=(-DWASM_RT_MEMCHECK_SIGNAL_HANDLER=0)
+[ ! -e "$wasm2c/wasm-rt-mem-impl.c" ] ||
+    bounds=(-DWASM_RT_USE_MMAP=0 -DWASM_RT_MEMCHECK_BOUNDS_CHECK=1 "-DZ_hidlog_init_module()=(void)0")
 # shellcheck disable=SC2054 # the commas are clang's
 checked=(clang -std=gnu11 -g -O1 -fsanitize=address,undefined -fno-sanitize-recover=all -Wall -Wextra -Werror
-    -DWASM_RT_MEMCHECK_SIGNAL_HANDLER=0 -I "$work" -I "$top/release" -I "$wasm2c")
+    "${bounds[@]}" -I "$work" -I "$top/release" -I "$wasm2c")
 
 exit_skipped() {
     echo "tests/fuzz/guided.sh: $1 is missing (apt-get install $2); nothing was run" >&2
     exit 3
 }
 
-# Requires the tools that fuzzers need: require_tools NAME ..
+# Exits with 3 if a tool is missing that one of these fuzzers needs: require_tools NAME ..
 require_tools() {
     local name
     for name in "$@"; do
@@ -58,23 +63,30 @@ require_tools() {
     done
 }
 
-# Translates the core to C, and compiles it with instrumentation. The code of wasm2c checks each memory access.
+# Translates the core to C, and compiles it with instrumentation for libFuzzer. The C code of wasm2c checks each memory
+# access.
 build_core() {
+    local file
     [ ! -e "$work/core.o" ] || return 0
     "$top/tests/fuzz/seeds.py" "$work/seeds"
     wasm2c "$top/release/hidlog.wasm" -n hidlog -o "$work/module.c"
-    clang -std=gnu11 -w -O1 -fsanitize=fuzzer-no-link -DWASM_RT_MEMCHECK_SIGNAL_HANDLER=0 -I "$wasm2c" \
-        -c "$work/module.c" -o "$work/core.o"
-    clang -std=gnu11 -w -O1 -DWASM_RT_MEMCHECK_SIGNAL_HANDLER=0 -DWASM_RT_TRAP_HANDLER=module_trap \
-        -c "$wasm2c/wasm-rt-impl.c" -o "$work/runtime.o"
+    # The names of wabt 1.0.36 become those of 1.0.32.
+    sed -i -E 's/\bw2c_hidlog_(hidlog_\w+)/Z_hidlogZ_\1/g; s/\bw2c_hidlog_0x5F_heap_base\b/Z_hidlogZ___heap_base/g
+        s/\bwasm2c_hidlog_(instantiate|free)\b/Z_hidlog_\1/g; s/\bw2c_hidlog\b/Z_hidlog_instance_t/g' "$work"/module.{c,h}
+    clang -std=gnu11 -w -O1 -fsanitize=fuzzer-no-link "${bounds[@]}" -I "$wasm2c" -c "$work/module.c" -o "$work/core.o"
+    for file in "$wasm2c"/wasm-rt-{,mem-}impl.c; do
+        [ ! -e "$file" ] || clang -std=gnu11 -w -O1 "${bounds[@]}" -DWASM_RT_TRAP_HANDLER=module_trap \
+            -c "$file" -o "$work/$(basename "$file" .c).o"
+    done
     "${checked[@]}" -fsanitize=fuzzer-no-link -c "$top/tests/fuzz/module_key.c" -o "$work/module_key.o"
 }
 
-# Builds a fuzzer and runs it: run_libfuzzer NAME MAX_LENGTH COMPILER_OPTION ..
+# Builds a libFuzzer target and runs it. MAX_LENGTH is the maximum length of its data: run_libfuzzer NAME MAX_LENGTH
+# COMPILER_OPTION ..
 run_libfuzzer() {
     local name=$1 longest=$2
     build_core
-    "${checked[@]}" -fsanitize=fuzzer -o "$work/$name" "$top/tests/fuzz/${name}_fuzz.c" "$work"/{module_key,core,runtime}.o \
+    "${checked[@]}" -fsanitize=fuzzer -o "$work/$name" "$top/tests/fuzz/${name}_fuzz.c" "$work"/{module_key,core,wasm-rt-*}.o \
         "${@:3}" -lm
     mkdir -p "$found/$name" "$work/seeds/$name"
     "$work/$name" -max_total_time="$seconds" -max_len="$longest" -artifact_prefix="$found/$name/finding_" \

@@ -1,6 +1,6 @@
-// A libFuzzer target for the functions on a key. The data is decoded into inputs. Each input is passed to an in-memory
-// key and appended to a log; at the end `hidlog_replay` replays the log. The key and the replay must send the same
-// packets and report the same statistics. Calls in an invalid state must fail and change nothing.
+// A libFuzzer target for the functions of an in-memory key. The fuzzer's data is decoded into inputs. Each input is
+// passed to the key, and appended to a log as a line. Then hidlog_replay replays the log: its output must have the
+// packets and the totals of the key. Calls that the key's state does not allow must fail and change nothing.
 //
 // tests/fuzz/guided.sh builds it with an instrumented core. Without instrumentation:
 //
@@ -19,17 +19,17 @@ static char written[TEXT], log_text[TEXT], replayed[TEXT];
 static size_t written_len, log_len;
 
 struct bytes {
-    const uint8_t *at;
+    const uint8_t *next;
     size_t left;
 };
 
-// Copies the next bytes of the data to `to`, and zeros after the end of the data.
+// Copies the next `len` bytes of the fuzzer's data to `to`. If fewer bytes are left, zeros follow them.
 static void take_bytes(struct bytes *from, uint8_t *to, size_t len) {
-    size_t there = from->left < len ? from->left : len;
+    size_t taken = from->left < len ? from->left : len;
     memset(to, 0, len);
-    memcpy(to, from->at, there);
-    from->at += there;
-    from->left -= there;
+    memcpy(to, from->next, taken);
+    from->next += taken;
+    from->left -= taken;
 }
 
 static uint8_t next_byte(struct bytes *from) {
@@ -55,19 +55,19 @@ static void append_digits(char *text, size_t *len, const uint8_t *bytes, size_t 
     }
 }
 
-// Appends the beginning of an input line to the log and to the expected output.
-static void append_line_start(const char *front) {
-    append_text(log_text, &log_len, front);
-    append_text(written, &written_len, front);
+// Appends a part of an input line to the log, and to the expected output of hidlog_replay, which has the same line.
+static void append_to_line(const char *part) {
+    append_text(log_text, &log_len, part);
+    append_text(written, &written_len, part);
 }
 
-static void append_line_digits(const char *front, const uint8_t *bytes, size_t count) {
-    append_line_start(front);
+static void append_digits_to_line(const char *separator, const uint8_t *bytes, size_t count) {
+    append_to_line(separator);
     append_digits(log_text, &log_len, bytes, count);
     append_digits(written, &written_len, bytes, count);
 }
 
-// Decodes a packet. Most packets are valid, so that requests become complete.
+// Decodes the fuzzer's data into a packet. Most packets have a valid header, so that messages become complete.
 static void decode_packet(struct bytes *from, uint8_t packet[64]) {
     uint8_t kind = next_byte(from);
     if (kind < 32) {
@@ -78,68 +78,70 @@ static void decode_packet(struct bytes *from, uint8_t packet[64]) {
     }
     take_bytes(from, packet, 64);
     if (kind < 224) {
-        uint8_t front[7] = {0, 0, 0, 1, kind < 160 ? 0x90 : kind & 3, 0, kind < 160 ? kind : packet[6]};
-        memcpy(packet, front, kind < 160 ? 7 : 5);
+        uint8_t header[7] = {0, 0, 0, 1, kind < 160 ? 0x90 : kind & 3, 0, kind < 160 ? kind : packet[6]};
+        memcpy(packet, header, kind < 160 ? 7 : 5);
     }
 }
 
-static int32_t provide_key_pair(struct hidlog_key *key, struct bytes *from, uint64_t at) {
+static int32_t provide_key_pair(struct hidlog_key *key, struct bytes *from, uint64_t time_ms) {
     uint8_t parts[96];
     take_bytes(from, parts, sizeof parts);
-    append_line_digits(" ", parts, 32);
-    append_line_digits(" ", parts + 32, 32);
-    append_line_digits(" ", parts + 64, 32);
-    return hidlog_key_provide_key_pair(key, at, parts, parts + 32, parts + 64);
+    append_digits_to_line(" ", parts, 32);
+    append_digits_to_line(" ", parts + 32, 32);
+    append_digits_to_line(" ", parts + 64, 32);
+    return hidlog_key_provide_key_pair(key, time_ms, parts, parts + 32, parts + 64);
 }
 
-static int32_t provide_signature(struct hidlog_key *key, struct bytes *from, uint64_t at) {
+static int32_t provide_signature(struct hidlog_key *key, struct bytes *from, uint64_t time_ms) {
     uint8_t bytes[72];
     size_t count = 1 + next_byte(from) % 72;
     take_bytes(from, bytes, count);
-    append_line_digits(" ", bytes, count);
-    return hidlog_key_provide_signature(key, at, bytes, count);
+    append_digits_to_line(" ", bytes, count);
+    return hidlog_key_provide_signature(key, time_ms, bytes, count);
 }
 
-static int32_t provide_presence(struct hidlog_key *key, struct bytes *from, uint64_t at) {
+static int32_t provide_presence(struct hidlog_key *key, struct bytes *from, uint64_t time_ms) {
     static const char *words[3] = {" granted", " denied", " timeout"};
     uint32_t which = next_byte(from) % 3;
-    append_line_start(words[which]);
-    return hidlog_key_provide_presence(key, at, which);
+    append_to_line(words[which]);
+    return hidlog_key_provide_presence(key, time_ms, which);
 }
 
-// Passes an input to the key and appends its line. Returns the number of queued packets.
-static int32_t handle_input(struct hidlog_key *key, struct bytes *from, uint64_t at) {
+// Decodes an input, passes it to the key, and appends its line. Returns what the key's function returned: the number of
+// queued packets.
+static int32_t handle_input(struct hidlog_key *key, struct bytes *from, uint64_t time_ms) {
     uint8_t kind = next_byte(from) % 16, packet[64];
-    char front[32];
+    char line_start[32];
     const char letter = kind < 9 ? '>' : "tppkkss"[kind - 9];
-    snprintf(front, sizeof front, "%c %" PRIu64, letter, at);
-    append_line_start(front);
+    snprintf(line_start, sizeof line_start, "%c %" PRIu64, letter, time_ms);
+    append_to_line(line_start);
     switch (letter) {
     case '>':
         decode_packet(from, packet);
-        append_line_digits(" ", packet, 64);
-        return hidlog_key_write_packet(key, at, packet);
+        append_digits_to_line(" ", packet, 64);
+        return hidlog_key_write_packet(key, time_ms, packet);
     case 't':
-        return hidlog_key_tick(key, at);
+        return hidlog_key_tick(key, time_ms);
     case 'p':
-        return provide_presence(key, from, at);
+        return provide_presence(key, from, time_ms);
     case 'k':
         if (kind == 12) {
-            return provide_key_pair(key, from, at);
+            return provide_key_pair(key, from, time_ms);
         }
-        append_line_start(" no");
-        return hidlog_key_refuse_key_pair(key, at);
+        append_to_line(" no");
+        return hidlog_key_refuse_key_pair(key, time_ms);
     default:
         if (kind == 14) {
-            return provide_signature(key, from, at);
+            return provide_signature(key, from, time_ms);
         }
-        append_line_start(" no");
-        return hidlog_key_refuse_signature(key, at);
+        append_to_line(" no");
+        return hidlog_key_refuse_signature(key, time_ms);
     }
 }
 
-// Expects that an input fails while packets are queued. Reads the packets, and appends them to the expected output.
-static void write_packets(struct hidlog_key *key, int32_t waiting) {
+// Reads the queued packets, and appends them to the expected output of hidlog_replay. Before, expects that a tick
+// fails, since packets are queued.
+static void read_packets(struct hidlog_key *key, int32_t waiting) {
     uint8_t packet[64];
     if (waiting < 0 || waiting > 130 || (waiting > 0 && hidlog_key_tick(key, UINT64_MAX) != HIDLOG_KEY_ERR_PACKETS_QUEUED)) {
         abort();
@@ -157,7 +159,7 @@ static void write_packets(struct hidlog_key *key, int32_t waiting) {
     }
 }
 
-// Checks that the need, the number of credentials and the credentials have values that hidlog.h allows.
+// Checks that what the key needs, its credentials and their number have values that hidlog.h allows.
 static void check_key(struct hidlog_key *key) {
     struct hidlog_need need;
     struct hidlog_credential credential;
@@ -175,16 +177,17 @@ static void check_key(struct hidlog_key *key) {
     }
 }
 
-// Appends the totals to the expected output, and checks that the replay of the log has this output.
+// Appends the key's totals to the expected output, and checks that hidlog_replay writes this output for the log.
 static void check_replay(struct hidlog_key *key) {
-    struct hidlog_stats m;
+    struct hidlog_stats stats;
     char text[200];
     struct hidlog_result result;
-    hidlog_key_get_stats(key, &m);
+    hidlog_key_get_stats(key, &stats);
     snprintf(text, sizeof text,
              "= held %" PRIu32 " rows %" PRIu32 " pending %" PRIu32 " requests %" PRIu64 " bytes %" PRIu64 " steps %" PRIu64
              "\n",
-             m.peak_message_bytes, m.peak_credentials, m.peak_pending, m.requests, m.bytes, m.steps);
+             stats.peak_message_bytes, stats.peak_credentials, stats.peak_pending, stats.requests, stats.bytes,
+             stats.steps);
     append_text(written, &written_len, text);
     hidlog_replay((const uint8_t *)log_text, log_len, (const uint8_t *)"", 0, (uint8_t *)replayed, TEXT, &result);
     if (result.status != 0 || result.written != written_len || memcmp(replayed, written, written_len) != 0) {
@@ -192,7 +195,7 @@ static void check_replay(struct hidlog_key *key) {
     }
 }
 
-// Checks that a key initialized with the saved snapshot saves the same snapshot.
+// Saves a snapshot of the key, initializes another key with it, and checks that a snapshot of that key is the same.
 static void check_saved_snapshot(struct hidlog_key *key) {
     static const uint8_t aaguid[16];
     static uint8_t saved[HIDLOG_SNAPSHOT_MAX_LEN], again[HIDLOG_SNAPSHOT_MAX_LEN];
@@ -207,7 +210,7 @@ static void check_saved_snapshot(struct hidlog_key *key) {
     free(other.memory);
 }
 
-// Returns whether a credential has this ID.
+// Returns whether the key has a credential with this ID.
 static int has_credential(struct hidlog_key *key, const uint8_t id[32]) {
     struct hidlog_credential credential;
     for (size_t i = 0; hidlog_key_get_credential(key, i, &credential) == 0; i++) {
@@ -249,7 +252,8 @@ static void remove_credential(struct hidlog_key *key, struct bytes *from) {
     }
 }
 
-// Adds and removes credentials, unless the key is busy.
+// Adds and removes credentials as the fuzzer's data says. If a request is in progress, only expects that changing them
+// fails.
 static void change_credentials(struct hidlog_key *key, struct bytes *from) {
     struct hidlog_need need;
     check_saved_snapshot(key);
@@ -276,7 +280,7 @@ int LLVMFuzzerTestOneInput(const uint8_t *data, size_t size) {
     static const uint8_t aaguid[16];
     struct bytes from = {data, size};
     struct hidlog_key key = {0};
-    uint64_t at = 0;
+    uint64_t time_ms = 0;
     written_len = log_len = 0;
     key.memory = aligned_alloc(16, (hidlog_key_size() + 15) / 16 * 16);
     if (key.memory == NULL || hidlog_key_init(&key, aaguid, 0, data, 0) != 0) {
@@ -285,10 +289,10 @@ int LLVMFuzzerTestOneInput(const uint8_t *data, size_t size) {
     int inputs = next_byte(&from) % (INPUTS + 1);
     for (int i = 0; i < inputs && from.left > 0; i++) {
         uint8_t step = next_byte(&from);
-        at += step < 200 ? step : (uint64_t)step * 50;
-        int32_t waiting = handle_input(&key, &from, at);
-        append_line_start("\n");
-        write_packets(&key, waiting);
+        time_ms += step < 200 ? step : (uint64_t)step * 50;
+        int32_t waiting = handle_input(&key, &from, time_ms);
+        append_to_line("\n");
+        read_packets(&key, waiting);
         check_key(&key);
     }
     check_replay(&key);

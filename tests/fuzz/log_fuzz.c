@@ -1,6 +1,6 @@
-// A libFuzzer target for the commands on a log, which is the data. The output of `replay` and `live` is a log that is
-// replayed unchanged and passes `check`. The output of `show`, explained or not, has no control characters except
-// newlines. tests/fuzz/guided.sh builds it.
+// A libFuzzer target for the command functions of hidlog.h. The fuzzer's data is the log. The output of hidlog_replay
+// and of hidlog_live must be a log that hidlog_replay writes unchanged and hidlog_check accepts. The output of
+// hidlog_show must have no control characters except newlines. tests/fuzz/guided.sh builds it.
 #include "hidlog.h"
 
 #include <stdlib.h>
@@ -12,8 +12,8 @@ static uint8_t written[TEXT], again[TEXT];
 
 typedef void command(const uint8_t *, size_t, const uint8_t *, size_t, uint8_t *, size_t, struct hidlog_result *);
 
-// Runs a command and checks the members of the result. Returns the length of the output, or 0 if the command reports an
-// error.
+// Runs a command, and checks that the members of its result are valid. Returns the length of the output, or 0 if the
+// command reports an error.
 static size_t run_command(command *function, const uint8_t *log, size_t len, uint8_t *text) {
     struct hidlog_result result;
     function(log, len, (const uint8_t *)"", 0, text, TEXT, &result);

@@ -1,6 +1,7 @@
-// Implements the functions of hidlog.h that the fuzz targets call with release/hidlog.wasm, translated to C by wasm2c,
-// so that libFuzzer can instrument the core. The caller's buffers are copied into the module's memory and back. The
-// guard bytes after what the core writes must stay unchanged.
+// Implements the functions of hidlog.h that the fuzz targets call, so that libFuzzer can instrument the verified core:
+// calls the functions of release/hidlog.wasm, which wasm2c translates to C. Copies the caller's buffers into the
+// module's memory and back. Puts guard bytes after each area that the module may write, and checks that they stay
+// unchanged.
 #include "hidlog.h"
 #include "module.h"
 
@@ -8,21 +9,21 @@
 #include <stdlib.h>
 #include <string.h>
 
-// Sizes in the module's memory: of the key's struct, the two inputs, the output, the guard bytes after what the core
-// writes, and a WebAssembly page.
+// Sizes of areas in the module's memory: for struct hidlog_key, the two input buffers, the output buffer, and the guard
+// bytes after each area that the module may write. PAGE is the size of a WebAssembly page.
 enum { KEY_SPACE = 64, MAX_READ = 1 << 20, MAX_MORE = 1 << 16, MAX_WRITE = 1 << 20, GUARD = 256, PAGE = 65536 };
 enum { ID = 32, GUARD_BYTE = 0xee };
 
 static Z_hidlog_instance_t module;
-static void *loaded_memory; // the memory of the key that is in the module
+static void *loaded_memory; // the caller's memory of the key that has been copied into the module, or NULL
 static u64 key_at, memory_at, read_at, more_at, write_at, result_at, key_size;
 
-static _Noreturn void fail(const char *what) {
-    fprintf(stderr, "module_key: %s\n", what);
+static _Noreturn void fail(const char *error) {
+    fprintf(stderr, "module_key: %s\n", error);
     abort();
 }
 
-// Called by the code of wasm2c when the module traps.
+// The code that wasm2c generates calls this function when the WebAssembly module traps.
 _Noreturn void module_trap(wasm_rt_trap_t code) {
     fprintf(stderr, "module_key: the WebAssembly module trapped with code %d\n", (int)code);
     abort();
@@ -44,9 +45,9 @@ static void start_module(void) {
     more_at = read_at + MAX_READ;
     write_at = more_at + MAX_MORE;
     result_at = write_at + MAX_WRITE + GUARD;
-    u64 pages = result_at / PAGE + 2, there = module.w2c_memory.pages;
-    if (pages > there && wasm_rt_grow_memory(&module.w2c_memory, pages - there) == (u32)-1) {
-        fail("not enough memory for the module");
+    u64 pages = result_at / PAGE + 2, old_pages = module.w2c_memory.pages;
+    if (pages > old_pages && wasm_rt_grow_memory(&module.w2c_memory, pages - old_pages) == (u32)-1) {
+        fail("cannot allocate memory for the WebAssembly module");
     }
 }
 
@@ -56,7 +57,7 @@ static u8 *to_address(u64 address) {
 
 static u64 copy_in(u64 address, const void *bytes, size_t len, size_t cap) {
     if (len > cap) {
-        fail("the input is too long for the module's memory");
+        fail("an input of the fuzz target is too long for its area in the module's memory");
     }
     memcpy(to_address(address), bytes, len);
     return address;
@@ -66,16 +67,16 @@ static void put_guard(u64 address) {
     memset(to_address(address), GUARD_BYTE, GUARD);
 }
 
-static void check_guard(u64 address, const char *what) {
+static void check_guard(u64 address, const char *error) {
     for (size_t i = 0; i < GUARD; i++) {
         if (*to_address(address + i) != GUARD_BYTE) {
-            fail(what);
+            fail(error);
         }
     }
 }
 
-// Copies the key's memory out of the module to the caller's memory. The caller does not read this memory while the key
-// is initialized, so copying it once, afterwards, is enough.
+// Copies the memory of the loaded key, if any, from the module back to the caller. This is necessary only when another
+// key is loaded or the key is destroyed, since the caller must not read the memory while the key is initialized.
 static void copy_key_out(void) {
     if (loaded_memory != NULL) {
         memcpy(loaded_memory, to_address(memory_at), key_size);
@@ -83,7 +84,8 @@ static void copy_key_out(void) {
     }
 }
 
-// Copies a key into the module, unless the module already has this key.
+// Copies a key's memory into the module, unless it is already there, and the key's struct. Returns the struct's address
+// in the module.
 static u64 load_key(const struct hidlog_key *key) {
     start_module();
     if (loaded_memory != key->memory) {
@@ -98,7 +100,8 @@ static u64 load_key(const struct hidlog_key *key) {
     return key_at;
 }
 
-// Copies the key's struct out of the module, and the key's memory as well if the key is no longer initialized.
+// Copies the state in the key's struct from the module back to the caller. If the result says that the key is not
+// initialized, copies its memory back as well.
 static int32_t store_key(struct hidlog_key *key, u32 result) {
     check_guard(memory_at + key_size, "bytes after the key's memory were written");
     memcpy(&key->state, to_address(key_at + 8), sizeof key->state);
@@ -168,7 +171,8 @@ int32_t hidlog_key_queued_packets(struct hidlog_key *key) {
     return store_key(key, Z_hidlogZ_hidlog_key_queued_packets(&module, load_key(key)));
 }
 
-// The body of a function with an output structure, which is copied into the module and back.
+// The body of a function that fills a structure of the caller: copies the structure into the module, calls the module's
+// function, and copies the structure back.
 #define DEFINE_GETTER(call, structure)                                                                                        \
     u64 key_address = load_key(key), address = copy_in(read_at, structure, sizeof *(structure), MAX_READ);                         \
     put_guard(read_at + sizeof *(structure));                                                                          \
@@ -212,10 +216,10 @@ int32_t hidlog_key_clear_credentials(struct hidlog_key *key, uint64_t time_ms) {
     return store_key(key, Z_hidlogZ_hidlog_key_clear_credentials(&module, load_key(key), time_ms));
 }
 
-// Returns the address of the output area, with guard bytes after the given number of bytes.
+// Puts guard bytes after the first `cap` bytes of the output area. Returns the address of the output area.
 static u64 reserve_output(size_t cap) {
     if (cap > MAX_WRITE) {
-        fail("the output buffer is too large for the module's memory");
+        fail("an output buffer of the fuzz target is too large for its area in the module's memory");
     }
     put_guard(write_at + cap);
     return write_at;
@@ -229,12 +233,12 @@ int32_t hidlog_key_save_snapshot(struct hidlog_key *key, uint8_t *out, size_t ca
     return len;
 }
 
-// Copies the output and the result of a function out of the module.
+// Copies the output and the result of a command from the module to the caller, and checks the guard bytes.
 static void copy_output(uint8_t *out, size_t cap, struct hidlog_result *result) {
     memcpy(result, to_address(result_at), sizeof *result);
     check_guard(write_at + cap, "bytes after the text were written");
     if (result->written > cap) {
-        fail("the module wrote past the output buffer");
+        fail("the result says that more bytes were written than the output buffer can hold");
     }
     memcpy(out, to_address(write_at), result->written);
 }

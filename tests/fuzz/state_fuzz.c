@@ -1,6 +1,7 @@
-// A libFuzzer target for the state files of the bridges (bridges/ssh/state.c). The data is the file. A valid file, read
-// and written again, must stay the same; an invalid file must be rejected with an error message. tests/fuzz/guided.sh
-// builds it.
+// A libFuzzer target for the bridges' state files (bridges/ssh/state.c). The fuzzer's data is the contents of a file.
+// If state_read accepts it, each credential must have a private key and an application; and the contents that
+// state_write then returns must be the same after they have been read and written again. tests/fuzz/guided.sh builds
+// it.
 #include "state.h"
 
 #include <openssl/crypto.h>
@@ -14,7 +15,7 @@ static void close_state(void) {
     OPENSSL_cleanse(&state, sizeof state);
 }
 
-// Checks that each credential of a valid file has a private key and an application.
+// Checks that each credential of the opened state has a private key and an application.
 static void check_credentials(void) {
     struct hidlog_credential credential;
     for (size_t i = 0; hidlog_key_get_credential(&state.vkey.key, i, &credential) == 0; i++) {

@@ -1,18 +1,22 @@
 #!/usr/bin/env bash
-# Installs each package with its language's tool in a clean Debian system, and runs the commands of the package's
-# README, including a registration and a sign-in: Python, node, C, Go, Rust, Ruby and Java. Prints the time for each
-# package in seconds, including the download of Debian's packages. Needs root, debootstrap and a Debian mirror; exits
-# with 3 if one of these is missing.
+# Tests the packages for Python, node, C, Go, Rust, Ruby and Java as new users would use them: installs each with its
+# language's tool in a clean Debian system, and runs the commands of its README, which register and sign in. Prints the
+# time for each in seconds, including the download of Debian's packages. Needs root, debootstrap and a Debian mirror;
+# exits with 3 if one of these is missing.
 #
-#     tests/packages/clean.sh FOLDER [PACKAGES]    FOLDER is created by debootstrap or reused; PACKAGES [default: built]
-#     HIDLOG_CASES=node                            only the cases whose name contains this
+#     tests/packages/clean.sh FOLDER [PACKAGES]
+#
+# FOLDER is the root of the Debian system. If it does not exist, debootstrap installs the base system there. PACKAGES is
+# the output of packages/build.sh [default: builds the packages]. With HIDLOG_CASES=TEXT, runs only the cases whose
+# names contain TEXT.
 set -euo pipefail
 top=$(cd "$(dirname "${BASH_SOURCE[0]}")/../.." && pwd)
 folder=${1:?usage: tests/packages/clean.sh FOLDER [PACKAGES]}
 [ "$(id -u)" = 0 ] || { echo "tests/packages/clean.sh: debootstrap needs root; nothing was run" >&2 && exit 3; }
 [ -d "$folder/usr" ] || debootstrap --variant=minbase bookworm "$folder" >"${folder%/}.log" || exit 3
 scratch=$(mktemp -d)
-# Unmounts the file systems, even if a program still uses them, and removes only files of this file system.
+# Unmounts /proc and /dev of the copied system, even if a program still uses them, and removes the copy. If one is still
+# mounted, does not remove files in it.
 clean_up() {
     umount -l "$scratch/system/proc" "$scratch/system/dev" 2>/dev/null || true
     rm -rf --one-file-system "$scratch"
@@ -26,7 +30,8 @@ fi
 version=$(sed -n 's/^version: //p' "$top/release/BUILD")
 failed=0
 
-# Runs commands in a new copy of the system, with the packages in /packages: run_in_clean_system NAME COMMANDS
+# Runs shell commands in a new copy of the system, which has the packages in /packages, and prints the result and the
+# time: run_in_clean_system CASE COMMANDS
 run_in_clean_system() {
     [[ $1 == *${HIDLOG_CASES-}* ]] || return 0
     local began=$SECONDS system=$scratch/system
@@ -48,8 +53,8 @@ $2" >"$scratch/output" 2>&1 </dev/null && status=ok || status=FAILED
     fi
 }
 
-# Defines sudo, which the READMEs use, and updates the package lists. run_readme FILE [HEADING] runs the commands of a
-# README.
+# Shell commands that run_in_clean_system runs before others: they define functions for sudo and apt-get, which the
+# READMEs use, and run_readme FILE [HEADING], which runs the commands of a README; and they update the package lists.
 # shellcheck disable=SC2016 # the shell in the system expands it
 start='
 sudo() { "$@"; }

@@ -1,6 +1,6 @@
-// Calls the functions for logs (hidlog_replay to hidlog_transactions) on each log, replays the log on a key, and writes
-// each result, so that the results of two libraries can be compared. Standard input has a snapshot and the logs, each
-// as "LENGTH NAME\n" followed by its bytes.
+// Calls each command function of hidlog.h (hidlog_replay to hidlog_transactions) on each log, replays the log on an
+// in-memory key as well, and prints all results, so that tests/portable can compare those of two libraries. Standard
+// input has a snapshot and the logs, each as "LENGTH NAME\n" followed by its bytes.
 #include "hidlog.h"
 
 #include <inttypes.h>
@@ -8,14 +8,15 @@
 #include <stdlib.h>
 #include <string.h>
 
-struct record {
+// A snapshot or a log.
+struct input {
     char name[256];
     uint8_t *bytes;
     size_t len;
 };
 
-static void fail(const char *what) {
-    fprintf(stderr, "all_commands: %s\n", what);
+static void fail(const char *error) {
+    fprintf(stderr, "all_commands: %s\n", error);
     exit(2);
 }
 
@@ -27,17 +28,17 @@ static void *allocate(size_t len) {
     return memory;
 }
 
-// Reads a record. Returns 0 at the end of the input.
-static int read_record(struct record *record) {
+// Reads a snapshot or a log from standard input. Returns 0 at the end of standard input.
+static int read_input(struct input *input) {
     unsigned long len;
-    if (scanf("%lu %255[^\n]", &len, record->name) != 2) {
+    if (scanf("%lu %255[^\n]", &len, input->name) != 2) {
         return 0;
     }
     getchar();
-    record->len = len;
-    record->bytes = allocate(len);
-    if (fread(record->bytes, 1, len, stdin) != len) {
-        fail("the input ends within a record");
+    input->len = len;
+    input->bytes = allocate(len);
+    if (fread(input->bytes, 1, len, stdin) != len) {
+        fail("standard input ends within a snapshot or a log");
     }
     return 1;
 }
@@ -52,10 +53,10 @@ static void write_result(const char *name, const char *command, const struct hid
     fwrite(out, 1, (size_t)result->written, stdout);
 }
 
-static void call_command(const char *command, const struct record *log, const struct record *snapshot, uint8_t *out,
+static void call_command(const char *command, const struct input *log, const struct input *snapshot, uint8_t *out,
                  size_t out_cap, struct hidlog_result *result) {
-    static const struct record none;
-    const struct record *start = strncmp(command, "loaded_", 7) == 0 ? snapshot : &none;
+    static const struct input none;
+    const struct input *start = strncmp(command, "loaded_", 7) == 0 ? snapshot : &none;
     const char *function = start == snapshot ? command + 7 : command;
     const uint8_t *start_bytes = start == snapshot ? snapshot->bytes : (const uint8_t *)"";
     if (strcmp(function, "replay") == 0) {
@@ -73,15 +74,15 @@ static void call_command(const char *command, const struct record *log, const st
     }
 }
 
-// Replays a log on a key, and writes the output, the snapshot and the totals.
-static void play_on_key(const struct record *log, uint8_t *out, size_t out_cap) {
+// Replays a log on an in-memory key, and prints the output, a snapshot of the key, and its totals.
+static void play_on_key(const struct input *log, uint8_t *out, size_t out_cap) {
     static const uint8_t aaguid[16];
     static uint8_t saved[HIDLOG_SNAPSHOT_MAX_LEN];
     struct hidlog_key key = {allocate(hidlog_key_size()), 0};
     struct hidlog_result result = {0};
     struct hidlog_stats stats;
     if (hidlog_key_init(&key, aaguid, 0, log->bytes, 0) != 0) {
-        fail("cannot initialize a key");
+        fail("out of memory, or hidlog_key_init failed");
     }
     hidlog_key_replay_lines(&key, log->bytes, log->len, out, out_cap, &result);
     write_result(log->name, "key", &result, out);
@@ -99,11 +100,11 @@ static void play_on_key(const struct record *log, uint8_t *out, size_t out_cap) 
 int main(void) {
     static const char *const commands[] = {"replay", "live",    "check",         "quiet",       "show",
                                            "explain", "transactions", "loaded_replay", "loaded_check"};
-    struct record snapshot, log;
-    if (!read_record(&snapshot)) {
-        fail("standard input does not begin with a snapshot");
+    struct input snapshot, log;
+    if (!read_input(&snapshot)) {
+        fail("standard input does not begin with a snapshot (\"LENGTH NAME\" and its bytes)");
     }
-    while (read_record(&log)) {
+    while (read_input(&log)) {
         size_t out_cap = 20 * log.len + 200000;
         uint8_t *out = allocate(out_cap);
         for (size_t i = 0; i < sizeof commands / sizeof *commands; i++) {

@@ -1,20 +1,20 @@
-// Tests memory management of the portable library, which is included here: a call fails cleanly if no instance of the
-// module can be allocated, instances that exceed the pool's size are freed, a buffer may have several windows, a key
-// may be copied, and 10,000 keys need only their own memory.
+// Tests how the portable library manages memory, by including its source with its own calloc and free: if no instance
+// of the module can be allocated, a call returns an error and changes nothing; instances that don't fit into the pool
+// are freed; a large buffer has several windows; a key may be copied; and 10,000 keys need only their own memory.
 #include <stddef.h>
 #include <stdlib.h>
 
-static int is_refused;
-static int live_count;
+static int is_calloc_failing;
+static int allocated_count;
 
 static void *counted_calloc(size_t count, size_t size) {
-    void *memory = is_refused ? NULL : calloc(count, size);
-    live_count += memory != NULL;
+    void *memory = is_calloc_failing ? NULL : calloc(count, size);
+    allocated_count += memory != NULL;
     return memory;
 }
 
 static void counted_free(void *memory) {
-    live_count -= memory != NULL;
+    allocated_count -= memory != NULL;
     free(memory);
 }
 
@@ -24,21 +24,21 @@ static void counted_free(void *memory) {
 #undef calloc
 #undef free
 
-static void expect(long long actual, long long expected, const char *what) {
+static void expect(long long actual, long long expected, const char *value_name) {
     if (actual != expected) {
-        fprintf(stderr, "allocation: %s is %lld, expected %lld\n", what, actual, expected);
+        fprintf(stderr, "allocation: %s is %lld, expected %lld\n", value_name, actual, expected);
         exit(1);
     }
 }
 
-// Takes all instances out of the pool, as concurrent calls do.
+// Takes all instances out of the pool, as calls do that run at the same time.
 static void empty_pool(struct instance **taken) {
     for (u32 i = 0; i < POOL_SLOTS; i++) {
         taken[i] = EXCHANGE(&pool[i], NULL);
     }
 }
 
-static void test_refused_allocation(struct hidlog_key *key) {
+static void test_failed_allocation(struct hidlog_key *key) {
     static const uint8_t packet[64] = {0xff, 0xff, 0xff, 0xff, 0x86, 0, 8};
     static const uint8_t log[] = "t 1\n";
     struct instance *taken[POOL_SLOTS];
@@ -46,7 +46,7 @@ static void test_refused_allocation(struct hidlog_key *key) {
     struct hidlog_client_report report;
     uint8_t out[200];
     empty_pool(taken);
-    is_refused = 1;
+    is_calloc_failing = 1;
     expect(hidlog_key_write_packet(key, 1, packet), HIDLOG_KEY_ERR_BUFFER_TOO_SMALL, "a refused packet");
     hidlog_check(log, sizeof log - 1, log, 0, out, sizeof out, &result);
     expect(result.status, HIDLOG_LOG_ERROR, "a refused check's status");
@@ -54,7 +54,7 @@ static void test_refused_allocation(struct hidlog_key *key) {
     expect((long long)result.written, 0, "a refused check's output");
     expect(hidlog_client_request(0, log, 0, log, 0, log, 0, log, 0, 0, &report, out, sizeof out),
            HIDLOG_CLIENT_TOO_SMALL, "a refused request");
-    is_refused = 0;
+    is_calloc_failing = 0;
     release_instance(taken[0]);
     expect(hidlog_key_queued_packets(key), 0, "packets after a refused one");
     expect(hidlog_key_write_packet(key, 1, packet), 1, "packets after the next packet");
@@ -67,14 +67,14 @@ static void test_freed_instances(void) {
     for (int i = 0; i < POOL_SLOTS + 5; i++) {
         acquired[i] = acquire_instance();
     }
-    expect(live_count, POOL_SLOTS + 4, "allocated instances in use");
+    expect(allocated_count, POOL_SLOTS + 4, "the number of allocated instances");
     for (int i = 0; i < POOL_SLOTS + 5; i++) {
         release_instance(acquired[i]);
     }
-    expect(live_count < POOL_SLOTS + 1, 1, "whether the pool keeps no more than its slots");
+    expect(allocated_count < POOL_SLOTS + 1, 1, "whether the instances that don't fit into the pool are freed");
 }
 
-// A copy of a key and of its memory is an independent key.
+// Tests that a copy of a key and of its memory is an independent key.
 static void test_copied_key(const struct hidlog_key *key) {
     uint8_t packet[64];
     struct hidlog_key copy = *key;
@@ -87,7 +87,8 @@ static void test_copied_key(const struct hidlog_key *key) {
     free(copy.memory);
 }
 
-// A buffer of several windows is contiguous in the module's address space, up to the end of its last window.
+// Tests that a buffer with several windows is contiguous in the module's address space, and that a buffer that needs
+// more windows than are left is rejected.
 static void test_windows(void) {
     static uint8_t bytes[1];
     struct call call;
@@ -103,7 +104,7 @@ static void test_windows(void) {
     expect(call.module->w2c_memory.windows[FIRST_BUFFER].size, 0, "a window's size after the call");
 }
 
-// Many keys in one process: each responds, and no key needs more memory than hidlog_key_size().
+// Tests that each of 10,000 keys in one process responds, without memory other than its own.
 static void test_many_keys(void) {
     enum { KEYS = 10000 };
     static const uint8_t aaguid[16], packet[64] = {0xff, 0xff, 0xff, 0xff, 0x86, 0, 8};
@@ -119,16 +120,16 @@ static void test_many_keys(void) {
         expect(hidlog_key_read_packet(&keys[i], response), 0, "packets left of one of many");
         free(keys[i].memory);
     }
-    expect(live_count, 0, "allocations of many keys");
+    expect(allocated_count, 0, "the number of allocations for many keys");
 }
 
 int main(void) {
     static const uint8_t aaguid[16];
     struct hidlog_key key = {malloc(hidlog_key_size()), 0};
     expect(hidlog_key_init(&key, aaguid, 0, aaguid, 0), 0, "hidlog_key_init");
-    expect(live_count, 0, "allocations of a single thread");
+    expect(allocated_count, 0, "the number of allocations in a single thread");
     test_many_keys();
-    test_refused_allocation(&key);
+    test_failed_allocation(&key);
     test_copied_key(&key);
     test_windows();
     test_freed_instances();

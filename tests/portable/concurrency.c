@@ -1,8 +1,8 @@
-// Uses the portable library from several threads, and in child processes that are forked while other threads are in
-// calls. Each key must send the same packets as in a single thread. Usage:
+// Tests the portable library in several threads at the same time, and in child processes that are forked while threads
+// call the library. Each key must send the same packets as in a single thread.
 //
-//     concurrency LOG            with threads and with child processes
-//     concurrency LOG threads    only with threads
+//     concurrency LOG            tests with threads and with child processes
+//     concurrency LOG threads    tests only with threads
 #define _POSIX_C_SOURCE 200809L
 #include "hidlog.h"
 
@@ -22,8 +22,8 @@ static uint8_t session[CAP], expected[CAP];
 static size_t session_len, expected_len;
 static atomic_int failures, is_ending;
 
-// Replays the log on a new key, and checks the log with hidlog_check. Returns whether both results are those of a
-// single thread.
+// Replays the log on a new key, and checks the log with hidlog_check. Returns whether the output of the replay equals
+// that of a single thread, and the check succeeds.
 static int matches_single_thread(void) {
     static const uint8_t aaguid[16];
     struct hidlog_key key = {malloc(hidlog_key_size()), 0};
@@ -64,7 +64,7 @@ static void join_threads(const pthread_t *threads) {
     }
 }
 
-// Forks while threads are in calls. Each child process replays the log.
+// Forks child processes while threads call the library. Each child process replays the log.
 static void fork_children(void) {
 #if !defined(_WIN32)
     pthread_t threads[THREADS];
@@ -105,7 +105,7 @@ int main(int count, char **words) {
         fork_children();
     }
     if (failures != 0) {
-        fprintf(stderr, "concurrency: %d runs failed, or their output differs from that of a single thread\n",
+        fprintf(stderr, "concurrency: %d replays of the log failed, or their output differs from that of a single thread\n",
                 (int)failures);
     }
     return failures != 0;

@@ -1,7 +1,7 @@
 #!/usr/bin/env bash
-# Installs the Python package from its sdist into an empty environment, as on a system without a wheel, so that the
-# portable C library is compiled. Then checks a log and signs in with the package. At the end, prints pip's processor
-# time.
+# Tests the Python package on a system without a wheel: installs it from its sdist into an empty environment, so that
+# the portable C library is compiled. Then checks a log and signs in with the package. At the end, prints pip's
+# processor time.
 #
 # Needs python3-hatchling, python3-venv, python3-cryptography, gcc and wabt; exits with 3 if one is missing.
 set -euo pipefail

@@ -1,5 +1,7 @@
-// Loads two shared libraries in one process, calls them alternately with the lines of a log, and checks that their
-// outputs are equal. Usage: two_libraries FIRST SECOND LOG
+// Tests that two shared libraries with the functions of hidlog.h can be loaded into one process: passes each line of a
+// log to a key of each library, and checks that the outputs are equal.
+//
+//     two_libraries FIRST SECOND LOG
 #include "hidlog.h"
 
 #include <dlfcn.h>
@@ -15,8 +17,8 @@ struct library {
     void *handle;
 };
 
-// Stores the address of a function in a function pointer. The bytes are copied, since ISO C has no conversion from an
-// object pointer to a function pointer.
+// Stores the address of the library's function with this name in the function pointer that `function` points to. Copies
+// the address byte by byte, since ISO C has no conversion from an object pointer to a function pointer.
 static void find_function(void *handle, const char *name, void *function) {
     void *found = dlsym(handle, name);
     if (found == NULL) {
@@ -63,7 +65,7 @@ int main(int count, char **words) {
             libraries[i].lines(&libraries[i].key, line, strlen((char *)line), out[i], CAP, &results[i]);
         }
         if (results[0].written != results[1].written || memcmp(out[0], out[1], (size_t)results[0].written) != 0) {
-            fprintf(stderr, "two_libraries: the outputs of the libraries differ at line %d\n", lines + 1);
+            fprintf(stderr, "two_libraries: the two libraries write different outputs for line %d of the log\n", lines + 1);
             return 1;
         }
         lines++;

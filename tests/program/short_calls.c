@@ -1,6 +1,6 @@
 /*
- * A library for LD_PRELOAD that causes short reads and writes: it halves the size of each read, write, send and recv of
- * more than one byte.
+ * A library for LD_PRELOAD that makes a program's reads and writes short: if read, write, send or recv is called with more
+ * than one byte, only half of the bytes are transferred.
  */
 #define _GNU_SOURCE
 #include <sys/socket.h>
@@ -25,6 +25,6 @@ ssize_t send(int file, const void *data, size_t size, int flags) {
 }
 
 ssize_t recv(int file, void *data, size_t size, int flags) {
-    /* The size is halved with MSG_PEEK as well, which does not remove the bytes. */
+    /* This includes calls with the flag MSG_PEEK, which leave the bytes in the socket. */
     return syscall(SYS_recvfrom, file, data, halve(size), flags, NULL, NULL);
 }

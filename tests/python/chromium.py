@@ -62,14 +62,14 @@ class Driver:
 
 
 def wait_for_port(port: int) -> None:
-    """Waits up to a minute until a local port is listening."""
-    for _ in range(600):
+    """Waits up to ten minutes until a local port is listening. Only a server that hangs takes this long."""
+    for _ in range(6000):
         try:
             socket.create_connection(("127.0.0.1", port)).close()
             return
         except ConnectionRefusedError:
             time.sleep(0.1)
-    raise TimeoutError(f"nothing listens on port {port} after a minute")
+    raise TimeoutError(f"nothing listens on port {port} after ten minutes")
 
 
 def is_installed() -> bool:

@@ -1,17 +1,18 @@
 #!/usr/bin/env bash
-# Tests the Python package in other environments: tests/python/environments.sh [CACHE [PART ..]] [default: all parts]
+# Tests the Python package in other environments than this system's: tests/python/environments.sh [CACHE [PART ..]]
+# [default: all parts]. "Ceremony tests" are those that register and sign in.
 #
-#     fido2          without python-fido2, and with versions 0.9, 1.2 and 2.2 (Debian's bookworm, trixie and sid): the
-#                    tests of ceremonies, and examples/python, with warnings as errors
-#     pythons        each installed Python of 3.9 to 3.13: pip installs the wheel into an empty environment, where
-#                    the tests of ceremonies run
-#     musl           a C client with the wheel's library, loaded by musl's loader, replays a sign-in
-#     aarch64        pip installs the wheel for aarch64 under qemu, where a test registers and signs in
+#     fido2          ceremony tests and examples/python, with warnings as errors: without python-fido2, and with its
+#                    versions 0.9, 1.2 and 2.2 (of Debian's bookworm, trixie and sid)
+#     pythons        ceremony tests with each installed Python from 3.9 to 3.13: pip installs the wheel into an empty
+#                    virtual environment
+#     musl           a C program that musl's loader runs replays a sign-in with the wheel's library
+#     aarch64        pip, run by qemu, installs the wheel for aarch64, and a script registers and signs in
 #
-# Missing packages are downloaded from Debian to CACHE and unpacked there, but not installed. With HIDLOG_OFFLINE=1
-# nothing is downloaded. Parts with missing dependencies are skipped, and their names are printed. The last line is `N
-# passed, N failed, N skipped`. HIDLOG_PYTHONS is a list of interpreters, separated by colons [default: those in
-# /usr/bin and of pyenv].
+# Downloads missing packages from Debian to CACHE and unpacks them there, without installing them; with
+# HIDLOG_OFFLINE=1, downloads nothing. A part that needs something that is missing is skipped, and the reason is
+# printed. The last line of the output is `N passed, N failed, N skipped`. HIDLOG_PYTHONS is a list of Python
+# interpreters, separated by colons [default: those in /usr/bin and of pyenv].
 set -uo pipefail
 here=$(cd "$(dirname "${BASH_SOURCE[0]}")" && pwd)
 top=$(cd "$here/../.." && pwd)
@@ -39,7 +40,8 @@ report_skipped() {
     skipped=$((skipped + 1))
 }
 
-# Runs a command, and prints the end of its output if it fails: run_case TITLE COMMAND ..
+# Runs a command as a test case, counts the result, and prints the end of the command's output if it fails: run_case
+# TITLE COMMAND ..
 run_case() {
     if "${@:2}" >"$work/output" 2>&1 </dev/null; then
         report_ok "$1: $(tail -1 "$work/output")"
@@ -50,7 +52,8 @@ run_case() {
     fi
 }
 
-# Runs apt-get for a Debian suite and a processor, with directories in CACHE: run_apt_get SUITE PROCESSOR ARG ..
+# Runs apt-get for another Debian suite or processor than this system's. It uses only directories in CACHE: run_apt_get
+# SUITE PROCESSOR ARG ..
 run_apt_get() {
     local folder=$cache/apt-$1-$2
     mkdir -p "$folder/lists/partial" "$folder/archives/partial"
@@ -62,7 +65,8 @@ run_apt_get() {
         -o "APT::Architectures=$2" -o APT::Sandbox::User=root "${@:3}" >/dev/null 2>&1
 }
 
-# Unpacks packages into a directory of CACHE, unless it exists: unpack_packages DIR SUITE PROCESSOR PACKAGE ..
+# Downloads Debian packages and unpacks them into the directory DIR in CACHE, unless it exists: unpack_packages DIR
+# SUITE PROCESSOR PACKAGE ..
 unpack_packages() {
     local to=$cache/$1 name
     [ ! -e "$to/.complete" ] || return 0
@@ -75,7 +79,8 @@ unpack_packages() {
     touch "$to/.complete"
 }
 
-# Links the modules of Debian's packages that work with any interpreter into a directory: link_packages DIR
+# Makes links in a directory to those modules of Debian's Python packages that work with any Python version:
+# link_packages DIR
 link_packages() {
     local name
     mkdir -p "$1"
@@ -84,29 +89,30 @@ link_packages() {
     done
 }
 
-# Prints the path of the pip wheel for an interpreter: the wheel in the module ensurepip, or Debian's.
+# Prints the path of the wheel of pip for an interpreter: the one in its module ensurepip, or Debian's: find_pip_wheel
+# INTERPRETER
 find_pip_wheel() {
     "$1" -c 'import ensurepip, glob, os
 own = os.path.join(os.path.dirname(ensurepip.__file__), "_bundled", "pip-*.whl")
 print((glob.glob(own) + glob.glob("/usr/share/python-wheels/pip-*.whl"))[0])'
 }
 
-# Creates an empty virtual environment with the wheel: create_environment DIR INTERPRETER. The interpreter runs pip from its
-# wheel, because installing pip into each environment would take longer than everything else.
+# Creates an empty virtual environment with the wheel: create_environment DIR INTERPRETER. The interpreter runs pip from
+# its wheel, because installing pip into each environment would take longer than everything else.
 create_environment() {
     local pip
     pip=$(find_pip_wheel "$2") && "$2" -m venv --without-pip "$1" &&
         PYTHONPATH=$pip "$1/bin/python" -m pip install --quiet --no-index --no-deps "$work"/dist/*x86_64.whl
 }
 
-# Runs the tests of ceremonies, without Chromium: run_ceremony_tests INTERPRETER ARG ..
+# Runs the ceremony tests, except those that need Chromium: run_ceremony_tests INTERPRETER ARG ..
 run_ceremony_tests() {
     (cd "$work/tests" && "$@" -m pytest -q -p no:cacheprovider -k "not chromium and not page" \
         test_browser.py test_browser_cases.py test_threads.py test_invalid_arguments.py test_readers.py)
 }
 
-# Runs the tests of ceremonies, the comparison with python-fido2's client, and the examples, with one version of
-# python-fido2.
+# Runs the ceremony tests, and unless DIR is empty, the comparison with python-fido2's client and the examples, with the
+# python-fido2 in DIR: test_with_fido2_version TITLE DIR
 test_with_fido2_version() {
     local version=$1 path=$2 python=$work/system/bin/python
     export PYTHONPATH=$path
@@ -154,8 +160,8 @@ list_interpreters() {
     done
 }
 
-# Provides the extension module that cryptography's bindings need for an interpreter: provide_cffi INTERPRETER DIR. It
-# is Debian's module, or is compiled from Debian's source.
+# Puts the extension module _cffi_backend, which the package cryptography needs, for an interpreter into a directory:
+# Debian's module, or one that is compiled from Debian's sources. provide_cffi INTERPRETER DIR
 provide_cffi() {
     local source=$cache/cffi-source name
     name=_cffi_backend$("$1" -c 'import sysconfig; print(sysconfig.get_config_var("EXT_SUFFIX"))')
@@ -169,7 +175,7 @@ provide_cffi() {
         (cd "$source" && run_apt_get bookworm amd64 update && run_apt_get bookworm amd64 source --tar-only python-cffi &&
             tar -xf python-cffi_*.orig.tar.gz) || return 1
     fi
-    # Python 3.13 renamed a function that this version of the source uses.
+    # Give a function that the sources use its new name, which it has since Python 3.13.
     gcc '-D_PyErr_WriteUnraisableMsg(text, object)=PyErr_WriteUnraisable(object)' -shared -fPIC -O1 -w "-I$("$1" -c 'import sysconfig; print(sysconfig.get_paths()["include"])')" -DUSE__THREAD \
         -DHAVE_SYNC_SYNCHRONIZE -o "$2/$name" \
         "$source"/cffi-*/c/_cffi_backend.c -lffi
@@ -211,8 +217,8 @@ test_musl() {
         bash -c '"$1" <"$2" | cmp - "$2" && echo "the replay equals the recording"' _ "$work/musl/client" "$top/examples/sign_in.log"
 }
 
-# Prints a Python script that registers and signs in with the package alone. The recording must match the packets that the
-# key sends.
+# Prints a Python script that registers and signs in with the package alone. The recording must match the packets that
+# the key sends.
 print_sign_in() {
     cat <<'PYTHON'
 import platform

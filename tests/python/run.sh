@@ -21,7 +21,7 @@ trap 'rm -rf "$work"' EXIT
 "$top/bindings/python/build.sh" "$work/dist"
 "$python" -m venv --system-site-packages "$work/venv"
 "$work/venv/bin/pip" install --quiet --no-index --no-deps "$work"/dist/*x86_64.whl
-# The tests run outside the clone, so that only the installed package is found.
+# Run the tests in a folder outside of the clone, so that Python finds only the installed package, not its sources.
 cp "$tests"/*.py "$tests"/*.json "$work"
 export HIDLOG_EXAMPLES=$top/examples HIDLOG_DIST=$work/dist
 export PYTHONDONTWRITEBYTECODE=1

@@ -198,7 +198,7 @@ def run_browser(folder: Path, *lines: bytes) -> list[bytes]:
     [
         (b"[" * 100_000, "SyntaxError", "nested too deeply"),
         (b'{"id": ' + b"[" * 980 + b"]" * 980 + b', "getLog": 0}', "", ""),
-        (b'{"create": ' + b'{"publicKey":' * 5000 + b"0" + b"}" * 5001, "SyntaxError", "nested too deeply"),
+        (b'{"create": ' + b'{"":' * 100_000 + b"0" + b"}" * 100_001, "SyntaxError", "nested too deeply"),
         (b'{"id": "' + b"x" * (1 << 21) + b'", "getLog": 0}', "SyntaxError", "more than 1048576 bytes"),
         (b"\xff\xfe{}", "SyntaxError", "utf-8"),
         (b'{"id": NaN, "getLog": 0}', "TypeError", "NaN is not a JSON number"),

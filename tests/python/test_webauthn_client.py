@@ -163,7 +163,7 @@ def test_values_that_stand_for_json() -> None:
 CYCLIC_OPTIONS: dict[str, Any] = {**CREATION}
 CYCLIC_OPTIONS["extensions"] = CYCLIC_OPTIONS
 NESTED_OPTIONS: Any = {}
-for _ in range(5_000):
+for _ in range(100_000):
     NESTED_OPTIONS = {"a": NESTED_OPTIONS}
 
 

@@ -1,5 +1,6 @@
-// Verifies registrations and sign-ins with Go's duo-labs/webauthn: reads a JSON array of cases, and writes a line for
-// each: "yes", "no: reason", or "none: reason".
+// Verifies registrations and sign-ins with the Go library duo-labs/webauthn: reads a JSON array of cases from standard
+// input, and prints a verdict for each: "yes" (accepted), "no: reason" (rejected), or "none: reason" (the library
+// panicked).
 package main
 
 import (
@@ -21,7 +22,7 @@ type testCase struct {
 	PublicKey  string          `json:"public_key"`
 	Counter    uint32          `json:"counter"`
 	Credential json.RawMessage `json:"credential"`
-	// The userVerification that the relying party requests: "required" or "discouraged".
+	// The value of userVerification in the relying party's options: "required" or "discouraged".
 	Verification string `json:"verification"`
 }
 
@@ -53,7 +54,7 @@ func verifyAssertion(test testCase) error {
 	return nil
 }
 
-// judge returns the verdict on a case: "yes", "no: reason", or "none: reason" if the library panics.
+// judge returns the library's verdict on a case, as described at the top of this file.
 func judge(test testCase) (verdict string) {
 	defer func() {
 		if reason := recover(); reason != nil {

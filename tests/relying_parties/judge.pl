@@ -4,6 +4,13 @@ use strict;
 use warnings;
 use Authen::WebAuthn;
 use JSON;
+use MIME::Base64 qw(decode_base64url encode_base64);
+
+# Returns a certificate as PEM. Versions newer than Debian 12's verify the chain of certificates.
+sub make_pem {
+    my $certificate = encode_base64( decode_base64url( $_[0] ) );
+    return "-----BEGIN CERTIFICATE-----\n$certificate-----END CERTIFICATE-----\n";
+}
 
 $| = 1;
 my $cases = decode_json( do { local $/; <STDIN> } );
@@ -17,6 +24,7 @@ for my $case (@$cases) {
                 requested_uv           => $case->{verification},
                 client_data_json_b64   => $response->{clientDataJSON},
                 attestation_object_b64 => $response->{attestationObject},
+                trust_anchors          => [ make_pem( $case->{root} ) ],
             );
         }
         else {

@@ -169,7 +169,7 @@ const testInvalidStates = async () => {
         sessionStorage.setItem("hidlogKey", typeof changed === "string" ? changed : JSON.stringify(changed));
         const error = await expectError(() => new SecurityKey({ storage: sessionStorage }), "TypeError", "removeItem");
         expect(!/BigInt|Cannot|is not/.test(error.message), `${name}: ${error.message}`);
-        await expectError(key.get(getOptions), "TypeError", "another value");
+        await expectError(key.get(getOptions), "TypeError", "an invalid state of a key");
         counter += 1;
         expect(readSignCount(await key.get(getOptions)) === counter, `${name}: the key continues`);
         expect((await new SecurityKey({ storage: sessionStorage }).getCredentials()).length === 1, `${name}: stored again`);

@@ -1,8 +1,11 @@
 #!/usr/bin/env bash
-# Runs the tests of bindings/web/ in each installed browser: the page that shows sessions, and the key in a page, whose
-# recordings must pass `hidlog check`. HIDLOG_PROGRAM is the path of the program hidlog [default: ./hidlog]. Prints
-# which dependencies are missing. With the argument `chromium` or `firefox`, runs only this browser. Exits with 3 if
-# python-fido2 or the browsers are missing.
+# Runs the tests of bindings/web/ in each installed browser: tests of the page that shows logs, and of the key in a web
+# page, whose recordings must pass `hidlog check`. Prints which optional dependencies are missing. Exits with 3 if
+# python-fido2 or both browsers are missing.
+#
+#     tests/web/run.sh [chromium | firefox]        [default: both browsers]
+#
+# HIDLOG_PROGRAM is the path of the program hidlog [default: ./hidlog].
 set -euo pipefail
 top=$(cd "$(dirname "${BASH_SOURCE[0]}")/../.." && pwd)
 here=$top/tests/web
@@ -32,10 +35,11 @@ run_browser_tests() {
         "$here/walks_fuzzed.py" --program "$program" || [ $? = 3 ] || failed=1
         run_examples_and_node_tests
     fi
-    check_logs "$work/$browser"
+    check_recordings "$work/$browser"
 }
 
-# Runs the examples with Debian's Selenium, and the examples and this folder's tests with node.
+# Runs the examples in examples/web: those in Python with Debian's Selenium, and those in JavaScript, with the tests in
+# this folder, with node.
 run_examples_and_node_tests() {
     local example
     if /usr/bin/python3 -c 'import selenium' 2>/dev/null && command -v chromedriver >/dev/null; then
@@ -53,12 +57,12 @@ run_examples_and_node_tests() {
             failed=1
         fi
     else
-        echo "tests/web: node is missing (apt-get install nodejs)" >&2
+        echo "tests/web: node is missing; the tests with node are not run (apt-get install nodejs)" >&2
     fi
 }
 
-# Checks that each recording equals its own replay.
-check_logs() {
+# Checks that `hidlog check` accepts each recording in a folder: check_recordings FOLDER
+check_recordings() {
     local log snapshot
     for log in "$1"/*.log; do
         [ -e "$log" ] || continue
@@ -91,14 +95,14 @@ if [ "$wanted" != firefox ]; then
         run_browser_tests chromium chromium --headless=new --no-sandbox --disable-dev-shm-usage --enable-logging=stderr \
             --user-data-dir=PROFILE
     else
-        echo "tests/web: chromium is missing (apt-get install chromium)" >&2
+        echo "tests/web: chromium is missing; its tests are not run (apt-get install chromium)" >&2
     fi
 fi
 if [ "$wanted" != chromium ]; then
     if command -v firefox-esr >/dev/null; then
         run_browser_tests firefox firefox-esr --headless --no-remote --profile PROFILE
     else
-        echo "tests/web: firefox-esr is missing (apt-get install firefox-esr)" >&2
+        echo "tests/web: firefox-esr is missing; its tests are not run (apt-get install firefox-esr)" >&2
     fi
 fi
 if [ "$ran" = 0 ]; then

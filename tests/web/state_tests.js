@@ -102,7 +102,7 @@ const testChangesDuringRequest = async (key) => {
 
 const testInvalidOrClearedStorage = async () => {
     sessionStorage.setItem("hidlogKey", "{");
-    await expectError(() => new SecurityKey({ storage: sessionStorage }), "TypeError", "another value");
+    await expectError(() => new SecurityKey({ storage: sessionStorage }), "TypeError", "an invalid state of a key");
     sessionStorage.clear();
     const key = new SecurityKey({ storage: sessionStorage });
     await key.create({ publicKey: makeCreationOptions(makeOptionsForUser("ann")) });
@@ -130,7 +130,7 @@ const testFullStorage = async () => {
     storage.isFull = false;
     expect(readSignCount(await key.get(getOptions)) === 2, "the next one is served");
     items.set("hidlogKey", "{");
-    await expectError(key.get(getOptions), "TypeError", "another value");
+    await expectError(key.get(getOptions), "TypeError", "an invalid state of a key");
     items.clear();
     expect(readSignCount(await key.get(getOptions)) === 3, "and the next");
 };
@@ -220,6 +220,6 @@ export const stateTests = {
     "two tabs sharing storage lose no counter increment": testSharedStorage,
     "changes by another tab are seen while the user is asked": testChangesWhileWaiting,
     "credentials are added while the user is asked": makeKeyTest(testChangesDuringRequest),
-    "storage that is cleared, or has another value": testInvalidOrClearedStorage,
+    "storage that is cleared, or has an invalid value": testInvalidOrClearedStorage,
     "storage that fails": testFullStorage,
 };

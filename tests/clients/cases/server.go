@@ -1,5 +1,5 @@
-// A program for tests/clients/browser_cases.py, which describes the protocol: reads calls of create and get from
-// standard input, and makes them in a browser of the Go module.
+// Makes the calls of navigator.credentials that tests/clients/browser_cases.py writes to standard input, with a Browser
+// of the Go module, and prints the results. browser_cases.py documents the protocol.
 package main
 
 import (
@@ -14,7 +14,7 @@ import (
 
 var presences = map[string]hidlog.Presence{"granted": hidlog.PresenceGranted, "denied": hidlog.PresenceDenied}
 
-// newKey returns a key with these options.
+// newKey returns a key with the options whose names browser_cases.py sent.
 func newKey(options []string) (*hidlog.SecurityKey, error) {
 	key, err := hidlog.NewSecurityKey()
 	if err != nil {
@@ -37,13 +37,13 @@ func newKey(options []string) (*hidlog.SecurityKey, error) {
 		case "no attestation":
 			key.Options.NoAttestation = true
 		default:
-			return nil, fmt.Errorf("unknown option %q", option)
+			return nil, fmt.Errorf("unknown option of the key: %q", option)
 		}
 	}
 	return key, nil
 }
 
-// makeCall calls create or get, and returns a line with the result.
+// makeCall calls the browser's method (create or get), and returns a line with the result.
 func makeCall(browser *hidlog.Browser, method, options string) string {
 	call := browser.Get
 	if method == "create" {

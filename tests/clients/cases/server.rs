@@ -1,9 +1,9 @@
-//! A program for tests/clients/browser_cases.py, which describes the protocol: reads calls of create and get from
-//! standard input, and makes them in a browser of the Rust crate.
+//! Makes the calls of navigator.credentials that tests/clients/browser_cases.py writes to standard input, with a
+//! Browser of the Rust crate, and prints the results. browser_cases.py documents the protocol.
 use hidlog::{Browser, Error, Presence, SecurityKey, Verification};
 use std::io::{stdin, BufRead};
 
-/// Returns a browser whose key has these options.
+/// Returns a browser whose key has the options that browser_cases.py sent by name.
 fn new_browser(options: &[&str]) -> Result<Browser, String> {
     let mut key = SecurityKey::new().map_err(|error| error.to_string())?;
     for option in options {
@@ -15,13 +15,13 @@ fn new_browser(options: &[&str]) -> Result<Browser, String> {
             "backup eligible" => key.options.backup_eligible = true,
             "backed up" => key.options.backed_up = true,
             "no attestation" => key.options.no_attestation = true,
-            _ => return Err(format!("unknown option {option:?}")),
+            _ => return Err(format!("unknown option of the key: {option:?}")),
         }
     }
     Ok(Browser::new("http://localhost:5000", key))
 }
 
-/// Calls create or get, and returns a line with the result.
+/// Calls the browser's method (create or get), and returns a line with the result.
 fn make_call(browser: &mut Browser, method: &str, options: &str) -> String {
     let made = if method == "create" { browser.create_json(options) } else { browser.get_json(options) };
     match made {
