@@ -3,12 +3,12 @@
  *
  * Each command function reads a complete log and a credential snapshot (length 0 for none; hidlog_show and
  * hidlog_transactions take none) and writes the command's output to `out`, at most `out_cap` bytes. The result is
- * stored in *result. The functions keep no state between calls, and are thread-safe. To add an input, append its line
- * to the log and call again.
+ * stored in *result. The command functions keep no state between calls, and are thread-safe. To add an input, append
+ * its line to the log and call again.
  *
  * No function allocates memory, except in the portable library (hidlog.c): there, a call that runs at the same time as
- * another may allocate. If that fails, the call changes nothing and returns the error for a buffer that is too small
- * (hidlog_result_message returns 0).
+ * another call may allocate memory. If the allocation fails, the call changes nothing, and returns the error for a
+ * buffer that is too small (hidlog_result_message returns 0).
  *
  * Pointers must not be NULL, even if the length is 0, and *result and `out` must not overlap each other or an input.
  * If the output does not fit, it is truncated and the error is HIDLOG_ERR_BUFFER_TOO_SMALL. Bytes of `out` after the
@@ -33,7 +33,7 @@ enum hidlog_log_error {
     HIDLOG_ERR_BAD_LINE = 1,
     HIDLOG_ERR_LINE_TOO_LONG = 2,
     HIDLOG_ERR_MISMATCH = 3, /* hidlog_check only */
-    /* 4, a failed read, occurs only in the program */
+    /* 4 is the program's error for a log that cannot be read; no function returns it */
     HIDLOG_ERR_BUFFER_TOO_SMALL = 5,
     HIDLOG_ERR_TOO_MANY_LINES = 6
 };
@@ -53,35 +53,38 @@ struct hidlog_result {
 };
 
 /* Replays the log: copies its inputs, comments and empty lines, and writes the packets that the key sends after each
- * input, and the totals at the end. The log's own packets and totals are dropped. */
+ * input, and the totals at the end. The packets and totals that the log has are not copied. */
 void hidlog_replay(const uint8_t *log, size_t log_len, const uint8_t *snapshot, size_t snapshot_len, uint8_t *out,
                    size_t out_cap, struct hidlog_result *result);
 
-/* Like hidlog_replay, and writes comments after each input line's packets. The last of them, and only the last, begins
- * with "# need " and says what the key needs. The log's own comments of this kind are dropped. */
+/* Like hidlog_replay, and also writes comments after the packets of each input. The last of these comments, and only
+ * the last, begins with "# need " and says what the key needs. Comments of the log that begin with "# need " are not
+ * copied. */
 void hidlog_live(const uint8_t *log, size_t log_len, const uint8_t *snapshot, size_t snapshot_len, uint8_t *out,
                  size_t out_cap, struct hidlog_result *result);
 
-/* Compares the log's packets with those the key sends, and writes how many inputs and packets match. */
+/* Replays the log, and compares the packets that the key sends with those in the log. If they are equal, writes the
+ * numbers of inputs and packets; otherwise the error is HIDLOG_ERR_MISMATCH. */
 void hidlog_check(const uint8_t *log, size_t log_len, const uint8_t *snapshot, size_t snapshot_len, uint8_t *out,
                   size_t out_cap, struct hidlog_result *result);
 
-/* Copies the log's inputs, comments and empty lines, with ticks in place of ignored inputs. The log's packets and
- * totals are dropped. */
+/* Copies the log's inputs, comments and empty lines, and replaces each input that the key ignores with a tick. The
+ * log's packets and totals are not copied. */
 void hidlog_quiet(const uint8_t *log, size_t log_len, const uint8_t *snapshot, size_t snapshot_len, uint8_t *out,
                   size_t out_cap, struct hidlog_result *result);
 
 /* Writes the log in readable form (docs/use/LOG_FORMAT.md): if `explain` is 0, the stable text for programs; otherwise
- * with names, fields and comments. No key is run, so the status is never HIDLOG_SNAPSHOT_ERROR. On HIDLOG_ERR_BAD_LINE,
- * HIDLOG_ERR_LINE_TOO_LONG and HIDLOG_ERR_TOO_MANY_LINES, `out` has the text of the lines before the bad one; on
- * HIDLOG_ERR_BUFFER_TOO_SMALL, the start of the text: call again with a larger buffer. */
+ * with names, fields and comments. The log is not replayed, so the status is never HIDLOG_SNAPSHOT_ERROR. On
+ * HIDLOG_ERR_BAD_LINE, HIDLOG_ERR_LINE_TOO_LONG and HIDLOG_ERR_TOO_MANY_LINES, `out` has the text of the lines before
+ * the bad one; on HIDLOG_ERR_BUFFER_TOO_SMALL, the start of the text: call again with a larger buffer. */
 void hidlog_show(const uint8_t *log, size_t log_len, uint32_t explain, uint8_t *out, size_t out_cap,
                  struct hidlog_result *result);
 
 /* Writes which transaction each line belongs to, by the rules of docs/use/EXPLAINED.md: one line of space-separated
- * decimal numbers for each packet, tick and reply. They are the line number, the first line of its transaction (or 0),
- * and the first line of the message this packet belongs to (or 0, as for a CANCEL, a packet out of sequence and a
- * reply). A word follows for each fact that this line shows about earlier lines:
+ * decimal numbers for each packet, tick, presence, key pair and signature in the log. The numbers are the line number,
+ * the first line of its transaction (or 0), and the first line of the message that the packet belongs to (or 0, as for
+ * a CANCEL, a packet out of sequence, and a line that is not a packet). A word follows for each fact that this line
+ * shows about earlier lines:
  *
  *     l12     line 12 is a late packet: it belongs to no transaction and no message
  *     s12:46  the transaction from line 12 ends with a response of status 46
@@ -98,8 +101,8 @@ void hidlog_show(const uint8_t *log, size_t log_len, uint32_t explain, uint8_t *
 void hidlog_transactions(const uint8_t *log, size_t log_len, uint8_t *out, size_t out_cap,
                          struct hidlog_result *result);
 
-/* Writes the line that the program prints to standard error for a result, such as `hidlog: line 3: not a log line` or
- * `hidlog: snapshot refused: 1`, with its newline, truncated to `out_cap` bytes (64 are enough). Writes nothing if the
+/* Writes the error message that the program prints for a result, such as `hidlog: line 3: not a log line` or
+ * `hidlog: snapshot refused: 1`, with a newline, truncated to `out_cap` bytes (64 are enough). Writes nothing if the
  * status is HIDLOG_OK. Returns the number of bytes written. */
 size_t hidlog_result_message(const struct hidlog_result *result, uint8_t *out, size_t out_cap);
 
@@ -138,22 +141,22 @@ enum hidlog_key_error {
     HIDLOG_KEY_ERR_BAD_CREDENTIAL = -19      /* hidlog_key_init: the snapshot has an invalid credential */
 };
 
-/* Size of a key's memory in bytes. */
+/* Returns the size of a key's memory in bytes. */
 size_t hidlog_key_size(void);
 
-/* Capacity of a key: 64 credentials, or 256 with libhidlog-256, which has the same functions for keys and logs of that
- * capacity. Compile programs for it with HIDLOG_CAPACITY defined as 256 (`pkg-config --cflags --libs hidlog-256` does),
- * so that their snapshot buffers are large enough. */
+/* Returns the maximum number of credentials on a key: 64, or 256 in the library libhidlog-256, which has the same
+ * functions. Compile programs for libhidlog-256 with HIDLOG_CAPACITY defined as 256 (`pkg-config --cflags --libs
+ * hidlog-256` does), so that their snapshot buffers are large enough. */
 size_t hidlog_key_capacity(void);
 
-/* Initializes a key, powered up at `now_ms`, with the credentials of a snapshot (length 0 for none). Returns 0. */
+/* Initializes a key that powers up at `now_ms`, with the credentials of a snapshot (length 0 for none). Returns 0. */
 int32_t hidlog_key_init(struct hidlog_key *key, const uint8_t aaguid[16], uint64_t now_ms, const uint8_t *snapshot,
                         size_t snapshot_len);
 
 /* Destroys a key; its memory may be reused or freed. Returns 0. */
 int32_t hidlog_key_destroy(struct hidlog_key *key);
 
-/* The inputs. Each returns the number of queued packets, 0 to 130. */
+/* The inputs of a key. Each function passes one input, and returns the number of queued packets, 0 to 130. */
 int32_t hidlog_key_write_packet(struct hidlog_key *key, uint64_t now_ms, const uint8_t packet[64]);
 int32_t hidlog_key_tick(struct hidlog_key *key, uint64_t now_ms);
 enum hidlog_presence { HIDLOG_PRESENCE_GRANTED = 0, HIDLOG_PRESENCE_DENIED = 1, HIDLOG_PRESENCE_TIMED_OUT = 2 };
@@ -166,13 +169,14 @@ int32_t hidlog_key_provide_signature(struct hidlog_key *key, uint64_t now_ms, co
                                      size_t signature_len);
 int32_t hidlog_key_refuse_signature(struct hidlog_key *key, uint64_t now_ms);
 
-/* Returns the number of queued packets. */
+/* Returns the number of packets that hidlog_key_read_packet can read. */
 int32_t hidlog_key_queued_packets(struct hidlog_key *key);
 
-/* Removes the next queued packet. Returns the number still queued, or HIDLOG_KEY_ERR_NO_PACKET. */
+/* Removes the next queued packet, and copies it to `packet`. Returns the number of packets that are still queued, or
+ * HIDLOG_KEY_ERR_NO_PACKET. */
 int32_t hidlog_key_read_packet(struct hidlog_key *key, uint8_t packet[64]);
 
-/* What the key needs from the caller to continue its request. */
+/* What a key needs from its caller to continue a request. */
 enum hidlog_need_kind {
     HIDLOG_NEED_NONE = 0,
     HIDLOG_NEED_PRESENCE = 1,
@@ -185,11 +189,12 @@ struct hidlog_need {
     uint8_t id[32];       /* HIDLOG_NEED_SIGNATURE: the credential ID; otherwise zeros */
     uint8_t to_sign[196]; /* the bytes to sign (ES256: SHA-256, ECDSA, DER), zero-padded */
 };
-/* Stores the need. Returns its kind. */
+/* Stores what the key needs now in *need. Returns the member `kind`. */
 int32_t hidlog_key_get_need(struct hidlog_key *key, struct hidlog_need *need);
 
-/* Why the key rejected its last input: with an ERROR packet (CTAP 2.1, section 11.2.9.1.6) or a status other than 0
- * (8.2). Parameters are keys of the request's map (6.1, 6.2); times are milliseconds. */
+/* Why the key rejected its last input: why it responded with an ERROR packet (CTAP 2.1, section 11.2.9.1.6) or with a
+ * status other than 0 (8.2). `first` and `second` are members of struct hidlog_cause. A parameter's number is its key
+ * in the request's CBOR map (6.1, 6.2); times are in milliseconds. */
 enum hidlog_cause_code {
     /* ERROR packets (transport) */
     HIDLOG_CAUSE_NO_SUCH_COMMAND = 1,  /* the CTAPHID command `first` is not supported */
@@ -202,7 +207,7 @@ enum hidlog_cause_code {
     HIDLOG_CAUSE_BUSY_HERE = 8,        /* a request is pending on this channel */
     HIDLOG_CAUSE_NO_SUCH_CHANNEL = 9,  /* only channels 1 to `first` are allocated; 0: none */
     HIDLOG_CAUSE_NO_CHANNEL_LEFT = 10, /* all channel IDs are allocated */
-    /* statuses: the first check that failed */
+    /* statuses of invalid requests; the cause is the first check that failed */
     HIDLOG_CAUSE_EMPTY_REQUEST = 20,     /* no command byte (the transport never passes this on) */
     HIDLOG_CAUSE_COMMAND = 21,           /* the authenticator command `first` is not supported */
     HIDLOG_CAUSE_TRAILING = 22,          /* `first` bytes after a command without parameters */
@@ -218,7 +223,7 @@ enum hidlog_cause_code {
     HIDLOG_CAUSE_UP_OPTION = 32,         /* the option up is false in a registration */
     HIDLOG_CAUSE_RK_OPTION = 33,         /* the option rk is present in an assertion */
     HIDLOG_CAUSE_ENTERPRISE = 34,        /* enterpriseAttestation is present */
-    /* statuses of the response to a command */
+    /* statuses of valid requests that the key cannot or may not fulfil */
     HIDLOG_CAUSE_CANCELLED = 50,         /* the host sent CANCEL */
     HIDLOG_CAUSE_DENIED = 51,            /* the user refused */
     HIDLOG_CAUSE_NO_CONSENT = 52,        /* the user did not respond in time: registration or assertion */
@@ -240,10 +245,10 @@ struct hidlog_cause {
     uint32_t status;        /* the ERROR packet's code, or the status */
     uint64_t first, second; /* the values compared, or 0 */
 };
-/* Stores why the key rejected its last input, and writes the cause as a UTF-8 sentence without a full stop to `out`,
- * truncated to `out_cap` bytes (160 are enough). `which`: 1 the input, 0 a timeout handled before it. Returns the
- * number of bytes written. If nothing was rejected, after hidlog_key_replay_lines and after power-up, it returns 0 and
- * stores nothing. HIDLOG_KEY_ERR_INVALID_ARGUMENT: another `which`. */
+/* Stores why the key rejected its last input in *cause, and writes this as a UTF-8 sentence without a full stop to
+ * `out`, truncated to `out_cap` bytes (160 are enough). `which` is 1 for the input itself, or 0 for a timeout that the
+ * key handled before it. Returns the number of bytes written. If nothing was rejected, after hidlog_key_replay_lines
+ * and after power-up, returns 0 and stores nothing. HIDLOG_KEY_ERR_INVALID_ARGUMENT: another value of `which`. */
 int32_t hidlog_key_cause(struct hidlog_key *key, uint32_t which, struct hidlog_cause *cause, uint8_t *out,
                          size_t out_cap);
 
@@ -260,14 +265,15 @@ struct hidlog_credential {
     uint32_t discoverable;  /* 0 or 1 */
     uint32_t sign_count;    /* the signature counter */
 };
-/* Number of credentials, 0 to HIDLOG_CAPACITY. */
+/* Returns the number of credentials on the key, 0 to HIDLOG_CAPACITY. */
 int32_t hidlog_key_credential_count(struct hidlog_key *key);
-/* Stores the credential at this index, from 0. Returns 0, or HIDLOG_KEY_ERR_INVALID_ARGUMENT if there is none. */
+/* Stores the credential with this index in *credential; the oldest has index 0. Returns 0, or
+ * HIDLOG_KEY_ERR_INVALID_ARGUMENT if there is no such credential. */
 int32_t hidlog_key_get_credential(struct hidlog_key *key, size_t index, struct hidlog_credential *credential);
 
-/* The next three functions change the credentials, if no packet is queued and nothing is needed (otherwise
- * HIDLOG_KEY_ERR_PACKETS_QUEUED or HIDLOG_KEY_ERR_BUSY). Each also power-cycles the key at `now_ms`: its channels, an
- * incomplete message, pending assertions and statistics are lost, so a client starts with INIT again. They return 0.
+/* The next three functions change the credentials, and return 0. They return HIDLOG_KEY_ERR_PACKETS_QUEUED if packets
+ * are queued, and HIDLOG_KEY_ERR_BUSY if the key needs something. Each also power-cycles the key at `now_ms`: its
+ * channels, an incomplete message, pending assertions and statistics are lost, so a client starts with INIT again.
  *
  * hidlog_key_add_credential appends a credential, and removes an earlier one with the same ID. Bytes after user_id_len
  * and user_name_len are ignored. HIDLOG_KEY_ERR_INVALID_ARGUMENT: a length over 64, a name that is not UTF-8, or a
@@ -287,10 +293,10 @@ enum { HIDLOG_SNAPSHOT_MAX_LEN = 13 + 283 * HIDLOG_CAPACITY };
  * HIDLOG_SNAPSHOT_MAX_LEN. It may be called at any time. Private keys are not included. Returns the length. */
 int32_t hidlog_key_save_snapshot(struct hidlog_key *key, uint8_t *out, size_t out_cap);
 
-/* Number of assertions pending for authenticatorGetNextAssertion, 0 to HIDLOG_CAPACITY - 1. */
+/* Returns the number of assertions that authenticatorGetNextAssertion can still return, 0 to HIDLOG_CAPACITY - 1. */
 int32_t hidlog_key_pending_assertions(struct hidlog_key *key);
 
-/* Totals and peaks of the session: the numbers of a log's last line (docs/use/LOG_FORMAT.md). */
+/* Totals and peaks of a key's session: the numbers in the totals line of its log (docs/use/LOG_FORMAT.md). */
 struct hidlog_stats {
     uint64_t requests, bytes, steps;
     uint32_t peak_message_bytes; /* `held` in the log */
@@ -298,13 +304,14 @@ struct hidlog_stats {
     uint32_t peak_pending;       /* `pending` */
     uint32_t reserved;           /* 0 */
 };
-/* Stores the statistics. Returns 0. */
+/* Stores the key's statistics in *stats. Returns 0. */
 int32_t hidlog_key_get_stats(struct hidlog_key *key, struct hidlog_stats *stats);
 
-/* Plays log lines, each with its newline, and writes what hidlog_live writes for them, without the totals line. This
- * records a session as it runs. 18,000 bytes are enough for one line. The result is stored in *result, with line
- * numbers counted from 1 in these lines. On an error, the lines before it were played. On HIDLOG_ERR_BUFFER_TOO_SMALL,
- * the last line was played, and its text is truncated. Returns the result's status, 0 or 1. */
+/* Passes the inputs of log lines to the key, each line with its newline, and writes what hidlog_live writes for them,
+ * without the totals line. A program can record a session with it as the session runs. 18,000 bytes of output are
+ * enough for one line. The result is stored in *result, with line numbers counted from 1 in these lines. On an error,
+ * the lines before it were handled. On HIDLOG_ERR_BUFFER_TOO_SMALL, the last line was handled, too, and its text is
+ * truncated. Returns the result's status, 0 or 1. */
 int32_t hidlog_key_replay_lines(struct hidlog_key *key, const uint8_t *log, size_t log_len, uint8_t *out,
                                 size_t out_cap, struct hidlog_result *result);
 
@@ -347,7 +354,8 @@ enum hidlog_client_error {
     HIDLOG_CLIENT_TOO_SMALL = -100 /* `out` is too small */
 };
 
-/* hidlog_client_request stores timeout_ms and is_verified; hidlog_client_response stores 0 in both. */
+/* What hidlog_client_request and hidlog_client_response report besides their output. hidlog_client_response stores 0 in
+ * timeout_ms and is_verified. */
 struct hidlog_client_report {
     uint32_t timeout_ms;  /* timeout of the options; 600,000 if they have none or the mediation is conditional */
     uint32_t is_verified; /* 1 if the user is verified: set the UV flag in the authenticator data before signing it */
@@ -355,13 +363,13 @@ struct hidlog_client_report {
     uint32_t reason_len;
 };
 
-/* Checks the options, and writes the request: the command byte, then canonical CBOR. */
+/* Checks the page's options, and writes the CTAP2 request to `out`: the command byte, followed by canonical CBOR. */
 int64_t hidlog_client_request(uint32_t ceremony, const uint8_t *options, size_t options_len, const uint8_t *mediation,
                               size_t mediation_len, const uint8_t *origin, size_t origin_len, const uint8_t *suffix,
                               size_t suffix_len, uint32_t abilities, struct hidlog_client_report *report, uint8_t *out,
                               size_t out_cap);
 
-/* Writes the credential as JSON. `response` is the key's response: a status byte, then CBOR. */
+/* Writes the credential as JSON to `out`. `response` is the key's response: a status byte, followed by CBOR. */
 int64_t hidlog_client_response(uint32_t ceremony, const uint8_t *options, size_t options_len, const uint8_t *mediation,
                                size_t mediation_len, const uint8_t *origin, size_t origin_len, const uint8_t *suffix,
                                size_t suffix_len, uint32_t abilities, const uint8_t *response, size_t response_len,

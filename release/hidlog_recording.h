@@ -1,9 +1,9 @@
-/* Records a key's session as it runs: a log of every input and packet, for `hidlog check` and `hidlog show --explain`.
- * This header needs only hidlog.h and the C standard library.
+/* Functions that record a key's session as it runs: they write a log of every input and packet, for `hidlog check` and
+ * `hidlog show --explain`. This header needs only hidlog.h and the C standard library.
  *
  * Each function with a key, such as hidlog_record_tick, calls its counterpart in hidlog.h, such as hidlog_key_tick. If
- * the call succeeds, the function writes its line to the open stream `log` and flushes the stream. It returns the
- * call's result, or HIDLOG_ERR_NOT_RECORDED, with errno set, if the call succeeded but its line could not be written.
+ * that call succeeds, the function writes the log line of the input or packet to the open stream `log`, and flushes the
+ * stream. It returns the call's result, or HIDLOG_ERR_NOT_RECORDED, with errno set, if the line could not be written.
  * Read each packet with hidlog_record_read_packet before the next input.
  *
  * `hidlog check` replays a key whose AAGUID is zeros and that powers up at 0. If the key starts with credentials, keep
@@ -18,7 +18,7 @@
 
 enum { HIDLOG_ERR_NOT_RECORDED = -32 };
 
-/* Writes bytes in hexadecimal. */
+/* Writes bytes to the log as hexadecimal digits. */
 static inline void hidlog_record_hex(FILE *log, const uint8_t *bytes, size_t len) {
     for (size_t i = 0; i < len; i++) {
         fprintf(log, "%02x", bytes[i]);
