@@ -33,7 +33,7 @@ done
     exit 1
 }
 version=$(sed -n 's/^version: //p' "$top/release/BUILD")
-# All files get one timestamp, the date of the man page, for reproducible builds.
+# Give all files in the packages one timestamp, the date of the man page, so that builds are reproducible.
 SOURCE_DATE_EPOCH=$(date -u -d "$(sed -n 's/^\.Dd //p' "$top/docs/use/hidlog.1")" +%s)
 export SOURCE_DATE_EPOCH
 # shellcheck disable=SC2034 # debian.sh reads it
@@ -46,14 +46,14 @@ install_file() {
     install -D -m "$1" "$top/$2" "$3"
 }
 
-# Installs the shell completions: install_completions ROOT
+# Installs the completions for bash, zsh and fish below ROOT: install_completions ROOT
 install_completions() {
     install -D -m 644 "$work/completions/hidlog.bash" "$1/bash-completion/completions/hidlog"
     install -D -m 644 "$work/completions/_hidlog" "$1/zsh/vendor-completions/_hidlog"
     install -D -m 644 "$work/completions/hidlog.fish" "$1/fish/vendor_completions.d/hidlog.fish"
 }
 
-# Installs the documents at the paths that the man page names: install_documents ROOT
+# Installs the documents and example logs below ROOT, at the paths that the man page names: install_documents ROOT
 install_documents() {
     local name
     "$top/packages/documents.py" "$1" LOG_FORMAT EXPLAINED PROFILE TESTING_YOUR_SERVICE WEBDRIVER TOUR TROUBLESHOOTING \
@@ -64,7 +64,7 @@ install_documents() {
     install_file 644 bindings/python/src/hidlog/shrink.py "$1/examples/shrink.py"
 }
 
-# Installs the sources of the C examples: install_c_examples DIR
+# Installs the sources of the C examples in DIR: install_c_examples DIR
 install_c_examples() {
     local name
     for name in "$top"/examples/c/*.[ch]; do
@@ -72,11 +72,11 @@ install_c_examples() {
     done
 }
 
-# Compiles hidlog-uhid. If that is not possible, prints what is missing, and returns 1.
+# Compiles the program hidlog-uhid. If gcc or libssl-dev is missing, says so and returns 1.
 compile_uhid() {
     local flags=(-std=c11 -O2 -D_FORTIFY_SOURCE=2 -fstack-protector-strong -fPIE -pie -s "-Wl,-z,relro,-z,now")
     if ! command -v gcc >/dev/null || ! echo '#include <openssl/evp.h>' | gcc -E - >/dev/null 2>&1; then
-        echo "packages: gcc or libssl-dev is missing, skipping hidlog-uhid (apt-get install gcc libssl-dev)" >&2
+        echo "packages: skipping hidlog-uhid, since gcc or libssl-dev is missing (apt-get install gcc libssl-dev)" >&2
         return 1
     fi
     (cd "$top" && gcc "${flags[@]}" -Wl,--build-id=none "-DHIDLOG_VERSION=\"$version\"" -I release -I examples/c \
@@ -84,7 +84,7 @@ compile_uhid() {
         examples/c/{virtual_key,private_file,software_keys,snapshot}.c release/libhidlog.a -lcrypto)
 }
 
-# Installs a library's file for pkg-config into a tarball's directory: install_pkg_config DIR NAME
+# Installs the file for pkg-config that describes a library in a tarball's directory: install_pkg_config DIR NAME
 install_pkg_config() {
     mkdir -p "$1/lib/pkgconfig"
     sed -e "s|^prefix=.*|prefix=\${pcfiledir}/../..|" -e "s|^Cflags: -I[^ ]*|Cflags: -I\${prefix}/include|" \
@@ -128,13 +128,13 @@ build_tarball() {
         gzip -9n >"$to/$folder-linux-$1.tar.gz"
 }
 
-# Prints the tarball's README: print_readme PROCESSOR
+# Prints the README of the tarball for a processor: print_readme PROCESSOR
 print_readme() {
     if [ "$1" = x86_64 ]; then
         cat "$top/packages/readme/tarball.md"
         return
     fi
-    # hidlog-uhid and the library for 256 credentials are for x86-64 only.
+    # For aarch64, leave out hidlog-uhid and the library for 256 credentials, which exist only for x86-64.
     sed -e 's/^For x86-64 Linux/For aarch64 (arm64) Linux/' -e 's/; .hidlog-256. has capacity.* |$/ |/' -e '/^| .bin.hidlog-uhid/d' \
         -e '/^## A virtual USB device/,/^root, a systemd unit/d' -e 's/, and the udev rule.*hidlog-uhid |/ |/' \
         "$top/packages/readme/tarball.md" | cat -s
@@ -143,7 +143,7 @@ print_readme() {
 # shellcheck disable=SC1091 # it is beside this file
 source "$top/packages/debian.sh"
 
-# Builds the npm package. Its files are in a directory named package.
+# Builds the npm package: a tarball whose files are in a directory named package.
 build_npm_package() {
     local folder=$work/npm/package name
     for name in security_key.js security_key.mjs security_key.d.ts security_key.d.mts; do
@@ -168,7 +168,7 @@ build_npm_package() {
         gzip -9n >"$to/hidlog-$version.tgz"
 }
 
-# Installs the portable library's sources, if they were generated: install_portable_sources DIR
+# Installs the sources of the portable C library in DIR, if they have been generated: install_portable_sources DIR
 install_portable_sources() {
     local name
     [ -z "${HIDLOG_PORTABLE-}" ] || for name in hidlog.c hidlog_module.h machine.h hidlog.h; do
@@ -176,7 +176,7 @@ install_portable_sources() {
     done
 }
 
-# Builds the Go module's zip for a module proxy. All paths start with the module's path and version.
+# Builds the Go module as a zip, as module proxies serve it: each path in it starts with the module's path and version.
 build_go_module() {
     local folder=$work/go/cogtzil.example/hidlog@v$version
     mkdir -p "$folder/lib"
@@ -192,7 +192,7 @@ build_go_module() {
     python3 "$top/packages/zip.py" "$work/go" "$to/hidlog-go-$version.zip"
 }
 
-# Builds a crate for cargo: build_crate NAME
+# Builds the file NAME-VERSION.crate of a Rust crate: build_crate NAME
 build_crate() {
     local folder=$work/crates/$1-$version
     mkdir -p "$folder"
@@ -228,7 +228,7 @@ if command -v wasm2c >/dev/null; then
     "$top/bindings/c/build.sh" "$to" "$work/portable"
     export HIDLOG_PORTABLE=$work/portable
 else
-    echo "packages: wabt is missing, skipping the portable library, its copies in the Go and Rust packages, and the packages for Windows (apt-get install wabt)" >&2
+    echo "packages: skipping the portable C library, its copies in the Go and Rust packages, and the packages for Windows, since wasm2c is missing (apt-get install wabt)" >&2
 fi
 build_npm_package
 build_go_module

@@ -1,14 +1,14 @@
 #!/usr/bin/env bash
-# Builds the files of release/ from the crates that `rt ci` has proved and built in crates/*/out: the program, the C
-# library for two processors and as a WebAssembly module, the headers, SHA256SUMS, and BUILD, which lists the hashes of
-# the sources and the versions of the tools.
+# Builds the files of release/ from the crates that `rt ci` has proved and built in crates/*/out: the program hidlog,
+# the C library for x86-64 and aarch64 and as a WebAssembly module, the headers, SHA256SUMS, and BUILD, which lists the
+# hashes of the sources and the versions of the tools.
 #
 #     packages/build_release.sh                writes release/; run it after `rt ci`, and commit the changed files
-#     packages/build_release.sh --check        builds the files again and compares them with release/, byte
+#     packages/build_release.sh --check        builds the files again, and compares them with release/, byte
 #                                              for byte; exits with 1 if a file differs
-#     packages/build_release.sh --check all    also builds the files that need a further proof: the program for
-#                                              aarch64, and the C library with capacity for 256 credentials.
-#                                              Without `all` only their hashes are checked
+#     packages/build_release.sh --check all    also builds the files that must be proved again, which takes long: the
+#                                              program for aarch64, and the C library for 256 credentials.
+#                                              Without `all`, only their hashes are checked
 #
 # Builds are reproducible, in any folder. Needs the toolchain (rt), gcc, libc6-dev, gcc-aarch64-linux-gnu with
 # libc6-dev-arm64-cross, and wasm-opt (binaryen). Without wasm-opt, --check compares the module before its conversion to
@@ -31,8 +31,9 @@ hash_file() {
     sha256sum <"$1" | cut -c1-64
 }
 
-# Proves a crate in a folder, and builds it for a target with the crates that it depends on: build_crate CRATE FOLDER
-# ROOT TARGET FILE WORD.. Proofs that do not depend on the target are checked once.
+# Proves the crate in FOLDER, and builds it for a target as FILE, with the crates that it depends on: build_crate CRATE
+# FOLDER ROOT TARGET FILE ARGUMENT .. ROOT is the crate's main source file; the arguments are for `rattle build`. Proofs
+# that do not depend on the target are checked only once.
 build_crate() {
     local crate=$1 folder=$2 root=$3 target=$4 file=$5 name libraries words
     words=(--crate-name "$crate" "$root" --extern "std=$kit/rlibs/std.rlib" -L "dependency=$kit/rlibs"
@@ -57,13 +58,14 @@ build_crate() {
     }
 }
 
-# Builds the C library: build_library FOLDER TARGET FILE
+# Builds the C library in FOLDER for a target as the static library FILE: build_library FOLDER TARGET FILE
 build_library() {
     build_crate hidlog_c "$1" src/lib.rt "$2" "$3" --crate-type staticlib
 }
 
-# Links the object file of `rt ci` into a static program. If `rt ci` reused the program of an earlier run, rt has
-# kept the linked program without its object file. Then --check compares the program's hash with release/LINKED.
+# Links the object file that `rt ci` has built into the static program hidlog. If `rt ci` reused the program of an
+# earlier run, there is no object file, only a program that rt has linked. Then --check compares that program's hash
+# with release/LINKED.
 build_program() {
     [ -e crates/hidlog_cli/out/hidlog_cli ] || fail "crates/hidlog_cli/out/hidlog_cli is missing: run rt ci first"
     hash_file crates/hidlog_cli/out/hidlog_cli >"$made/LINKED"
@@ -75,14 +77,15 @@ build_program() {
         cp release/hidlog "$made/hidlog"
         return
     fi
-    # gcc and Debian's libc.a support a static position-independent program with read-only relocations.
+    # Link with gcc and Debian's libc.a, since they can make a static program that is position-independent and has
+    # read-only relocations.
     gcc -static-pie -Wl,--build-id=none -Wl,-z,relro,-z,now -s -o "$made/hidlog" crates/hidlog_cli/out/hidlog_cli.o \
         "$kit/c/libos_c.a" "$kit/c/liblibc_c.a"
     [[ $(readelf -dW "$made/hidlog") == *"Flags: NOW PIE"* && $(readelf -lW "$made/hidlog") == *GNU_RELRO* ]] ||
-        fail "$made/hidlog is not position-independent with read-only relocations"
+        fail "the linked program $made/hidlog is not position-independent, or its relocations are writable"
 }
 
-# Prints the hash of the object file. If rt has kept no object file, prints the hash in release/BUILD.
+# Prints the hash of the program's object file. If rt has kept no object file, prints the hash that release/BUILD has.
 print_object_hash() {
     if [ -e crates/hidlog_cli/out/hidlog_cli.o ]; then
         hash_file crates/hidlog_cli/out/hidlog_cli.o
@@ -97,13 +100,14 @@ build_shared() {
         --whole-archive "$made/$1.a"
 }
 
-# Builds the program for aarch64. The program is proved again, since `rt ci` builds no object file for aarch64.
+# Builds the program hidlog for aarch64. It is proved again, since `rt ci` builds no object file for aarch64.
 build_program_for_aarch64() {
     build_crate hidlog_cli crates/hidlog_cli src/main.rt aarch64-unknown-linux-gnu "$work/hidlog_aarch64.o"
     packages/arm64/link.sh "$work/hidlog_aarch64.o" "$made/aarch64/hidlog"
 }
 
-# Builds the C library with capacity for 256 credentials. The sources differ in one line, the constant CAPACITY.
+# Builds the C library for keys of 256 credentials, from a copy of the sources in which the constant CAPACITY is
+# changed.
 build_large_library() {
     local large=$work/hidlog_c_256
     mkdir "$large"
@@ -115,8 +119,8 @@ build_large_library() {
     build_shared libhidlog-256
 }
 
-# Links the WebAssembly module, and converts it to 32-bit memory, since node 20 and many browsers do not support 64-bit
-# memory.
+# Builds the C library as a WebAssembly module, which has a memory with 64-bit addresses, and converts it to 32-bit
+# addresses with wasm-opt, since node 20 and many browsers support only those.
 build_module() {
     build_library crates/hidlog_c wasm64-unknown-unknown "$work/module.a"
     "$kit/bin/rattle-link" --target wasm64-unknown-unknown --toolchain "$kit/toolchain" --stack 524288 \
@@ -131,7 +135,7 @@ build_module() {
     fi
 }
 
-# Prints the version of wasm-opt. If wasm-opt is not installed, prints the version in release/BUILD.
+# Prints the version of wasm-opt. If wasm-opt is not installed, prints the version that release/BUILD has.
 print_wasm_opt_version() {
     if command -v wasm-opt >/dev/null; then
         wasm-opt --version
@@ -140,12 +144,12 @@ print_wasm_opt_version() {
     fi
 }
 
-# Prints the version of a compiler, and the hash of the C library that it links.
+# Prints the version of a C compiler, and the hash of the libc.a that it links: describe_linker COMPILER
 describe_linker() {
     echo "gcc $("$1" -dumpfullversion), $(sha256sum <"$("$1" -print-file-name=libc.a)" | cut -c1-16) libc.a"
 }
 
-# Prints the linker for aarch64 that release/BUILD names.
+# Prints the line of release/BUILD about the linker for aarch64, without its name.
 print_linker_for_aarch64() {
     sed -n 's/^linker for aarch64: //p' release/BUILD
 }
@@ -165,9 +169,10 @@ write_build_file() {
     } >"$made/BUILD"
 }
 
-# Compares release/ with the files that were built. If this machine has another linker or C library, compares the object
-# file of the program for x86-64 instead, and does not compare the program for aarch64. If this machine has another
-# wasm-opt, compares the module before wasm-opt. The toolchain must have the same logic, but may have another name.
+# Compares release/ with the files that were built, and fails if one differs. If this machine has another gcc or C
+# library than the machine that wrote release/, the linked programs differ: compares the object file of the program for
+# x86-64 instead, and does not compare the program for aarch64. If it has another wasm-opt, compares the WebAssembly
+# module before wasm-opt. The toolchain may have another name, but must have the same logic (proof rules).
 compare_release() {
     local name differ=0
     for name in "${names[@]}"; do
@@ -190,24 +195,25 @@ compare_release() {
     [ "$differ" = 0 ] || fail "release/ is out of date: run packages/build_release.sh"
 }
 
-# Prints a BUILD file without the lines for the linkers and wasm-opt. Of the toolchain's version, only the hash of its
-# logic is printed.
+# Prints a BUILD file without the lines about the linkers and wasm-opt. Reduces the toolchain's version to the hash of
+# its logic.
 print_without_tools() {
     grep -v '^linker\(:\| for\)\|^lowered by:' "$1" | sed 's/^kit: .* logic /kit: logic /'
 }
 
-# Checks whether the two BUILD files are equal except for the linkers, wasm-opt and the toolchain's name. BUILD has the
-# hashes of the tools' inputs, so these are equal too.
+# Returns whether the two BUILD files are equal except for the linkers, wasm-opt and the toolchain's name. If they are,
+# the files that the linkers and wasm-opt read are equal, too, since BUILD has their hashes.
 differs_only_in_tools() {
     diff <(print_without_tools release/BUILD) <(print_without_tools "$made/BUILD") >/dev/null
 }
 
-# Checks whether this tool differs between the two BUILD files, and nothing else but tools does: differs_in_tool TOOL
+# Returns whether the two BUILD files differ in the line about this tool, and otherwise only in lines about tools:
+# differs_in_tool TOOL
 differs_in_tool() {
     ! diff <(grep "^$1:" release/BUILD) <(grep "^$1:" "$made/BUILD") >/dev/null && differs_only_in_tools
 }
 
-# Writes a shared library's file for pkg-config: write_pkg_config NAME [CFLAG]
+# Writes the file for pkg-config that describes a shared library: write_pkg_config NAME [CFLAG]
 write_pkg_config() {
     {
         echo "prefix=\${pcfiledir}"
@@ -219,7 +225,7 @@ write_pkg_config() {
     } >"$made/$1.pc"
 }
 
-# Builds the files that need a proof of their own, which takes long. Skipped by --check without `all`.
+# Builds the files that must be proved again, which takes long. `--check` without `all` does not call it.
 build_slow_files() {
     build_program_for_aarch64
     build_large_library

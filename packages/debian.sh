@@ -1,13 +1,14 @@
 # shellcheck shell=bash
-# The Debian packages of packages/build.sh, which sources this file.
+# Functions that build the Debian packages; packages/build.sh sources this file.
 # shellcheck disable=SC2154 # top, work, to, version and maintainer are set by build.sh
 
-# Checks whether a package contains the static program, which includes parts of the C library.
+# Returns whether a package contains the static program hidlog, which includes parts of the GNU C library: has_program
+# NAME
 has_program() {
     [ "$1" = hidlog ]
 }
 
-# Prints the licenses of a package: print_copyright NAME
+# Prints the file debian/copyright of a package, which lists its licenses: print_copyright NAME
 print_copyright() {
     echo "Format: https://www.debian.org/doc/packaging-manuals/copyright-format/1.0/"
     echo "Upstream-Name: hidlog"
@@ -38,7 +39,7 @@ print_copyright() {
     fi
 }
 
-# Installs a package's license and changelog: install_common_files NAME ROOT
+# Installs the license and the changelog of a package in its root directory: install_common_files NAME ROOT
 install_common_files() {
     local docs=$2/usr/share/doc/$1
     mkdir -p "$docs"
@@ -52,20 +53,21 @@ install_common_files() {
     } | gzip -9n >"$docs/changelog.gz"
 }
 
-# Adds an override for lintian, with the reason: add_lintian_override NAME ROOT REASON TAG
+# Makes lintian accept a tag for a package, and records the reason: add_lintian_override NAME ROOT REASON TAG
 add_lintian_override() {
     mkdir -p "$2/usr/share/lintian/overrides"
     printf '# %s\n%s: %s\n' "$3" "$1" "$4" >>"$2/usr/share/lintian/overrides/$1"
 }
 
-# Installs a maintainer script from standard input: install_maintainer_script ROOT NAME
+# Installs the maintainer script on standard input, such as postinst, in a package: install_maintainer_script ROOT NAME
 install_maintainer_script() {
     mkdir -p "$1/DEBIAN"
     cat >"$1/DEBIAN/$2"
     chmod 755 "$1/DEBIAN/$2"
 }
 
-# Builds a package from the installed files: build_package NAME PROCESSOR SECTION DEPENDS SUMMARY TEXT
+# Builds a package from the files that were installed in its root directory: build_package NAME PROCESSOR SECTION
+# DEPENDS SUMMARY DESCRIPTION
 build_package() {
     local root=$work/$2/$1
     install_common_files "$1" "$root"
@@ -83,12 +85,12 @@ build_package() {
     dpkg-deb --root-owner-group -Zxz --build "$root" "$to/$1_${version}_$2.deb" >/dev/null
 }
 
-# Prints the script /usr/bin/hidlog, which runs the program of the package hidlog, or a command of the package
-# python3-hidlog.
+# Prints the script /usr/bin/hidlog of the package hidlog: it runs the verified program, or the package python3-hidlog
+# if that has the command.
 print_launcher() {
     cat <<'END'
 #!/bin/sh
-# The command hidlog: the program of this package, or a command of the package python3-hidlog.
+# The command hidlog: runs the verified program, or the package python3-hidlog if that has the command.
 program=/usr/lib/hidlog/hidlog
 
 run_python() {
@@ -104,7 +106,7 @@ END
     sed 1d "$top/packages/command.sh"
 }
 
-# Builds the package of the program: build_program_package PROCESSOR PROGRAM
+# Builds the package hidlog, which has the program: build_program_package PROCESSOR PROGRAM
 build_program_package() {
     local root=$work/$1/hidlog
     install_file 755 "$2" "$root/usr/lib/hidlog/hidlog"
@@ -116,7 +118,8 @@ build_program_package() {
     install_completions "$root/usr/share"
     install_documents "$root/usr/share/doc/hidlog"
     install_file 644 packages/readme/hidlog.md "$root/usr/share/doc/hidlog/README.md"
-    # lintian classifies a static position-independent program (ELF type 3) as a library without dependencies.
+    # lintian reports a static program. If the program is position-independent (ELF type 3), lintian takes it for a
+    # shared library without dependencies, and reports another tag.
     local tag=statically-linked-binary
     [ "$(od -An -t u1 -j 16 -N 1 "$top/$2" | tr -d ' ')" != 3 ] || tag=shared-library-lacks-prerequisites
     add_lintian_override hidlog "$root" "It runs on any Linux, with any C library." "$tag [usr/lib/hidlog/hidlog]"
@@ -124,11 +127,11 @@ build_program_package() {
         "Replays, checks and shows session logs of FIDO2 security keys (CTAP 2.1)."
 }
 
-# Links the shared library for aarch64. If that is not possible, prints what is missing, and returns 1.
+# Links the C library as a shared library for aarch64. Without a linker, prints which one is missing, and returns 1.
 link_aarch64() {
     local linker
     linker=$(command -v aarch64-linux-gnu-ld || command -v ld.lld) || {
-        echo "packages: a linker for aarch64 is missing, skipping the packages and the tarball for arm64 (apt-get install lld)" >&2
+        echo "packages: skipping the packages and the tarball for arm64, since no linker for aarch64 was found (apt-get install lld)" >&2
         return 1
     }
     mkdir -p "$work/aarch64"
@@ -136,7 +139,7 @@ link_aarch64() {
         -o "$work/aarch64/libhidlog.so.1" --whole-archive "$top/release/aarch64/libhidlog.a"
 }
 
-# Builds the packages of the library: build_library_packages PROCESSOR TRIPLE SHARED STATIC
+# Builds the packages libhidlog1 and libhidlog-dev: build_library_packages PROCESSOR TRIPLE SHARED STATIC
 build_library_packages() {
     local root=$work/$1/libhidlog1 libraries=usr/lib/$2
     install -D -m 644 "$(cd "$top" && realpath "$3")" "$root/$libraries/libhidlog.so.1"
@@ -162,7 +165,8 @@ build_library_packages() {
         "FIDO2 security key as a library, headers and static library" "Files for building programs with libhidlog."
 }
 
-# Builds the package of hidlog-uhid, after compile_uhid. It is linked with Debian 12's C library and OpenSSL.
+# Builds the package hidlog-uhid from the program that compile_uhid has compiled, which depends on Debian 12's versions
+# of the C library and of OpenSSL.
 build_uhid_package() {
     local root=$work/amd64/hidlog-uhid
     install -D -m 755 "$work/hidlog-uhid.program" "$root/usr/bin/hidlog-uhid"
@@ -172,8 +176,8 @@ build_uhid_package() {
     install_file 644 packages/uhid/hidlog-uhid@.service "$root/lib/systemd/system/hidlog-uhid@.service"
     install_file 644 packages/uhid/hidlog-uhid.conf "$root/usr/lib/sysusers.d/hidlog-uhid.conf"
     install_file 644 packages/readme/hidlog-uhid.md "$root/usr/share/doc/hidlog-uhid/README.md"
-    # Creates the unit's user, which is not needed without systemd. Reloads udev's rules, since udev may have read them
-    # before the group existed.
+    # The script creates the user of the systemd unit, if systemd is installed. It also makes udev read its rules again,
+    # since udev may have read them before their group existed.
     install_maintainer_script "$root" postinst <<'END'
 #!/bin/sh
 set -e
@@ -191,7 +195,8 @@ END
         "Creates a software security key with /dev/uhid, for browsers, OpenSSH and PAM."
 }
 
-# Builds the Python package from the wheel for x86-64, with the command that /usr/bin/hidlog of the package hidlog runs.
+# Builds the package python3-hidlog from the wheel for x86-64. Adds the script that runs the package's commands, which
+# /usr/bin/hidlog of the package hidlog calls.
 build_python_package() {
     local root=$work/amd64/python3-hidlog place name
     place=$root/usr/lib/python3/dist-packages

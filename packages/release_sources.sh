@@ -1,10 +1,10 @@
 #!/bin/sh
 # Prints the paths of the files and folders from which release/ is built, one per line: crates.txt, HANDLES, the C
-# headers, and the folders of sources, definitions and proofs of the program, of the C library and of each crate on
-# which they depend.
+# headers, and the folders src, specs and proofs of the crates hidlog_cli and hidlog_c, and of each crate on which they
+# depend.
 #
 #     packages/release_sources.sh            prints the paths
-#     packages/release_sources.sh --hash     prints a hash of all the files
+#     packages/release_sources.sh --hash     prints one hash of the contents of all these files
 set -eu
 cd "$(dirname "$0")/.."
 

@@ -18,12 +18,13 @@ fail() {
     exit 1
 }
 
-# Checks whether a file has a signature by one of the signers: is_signed FILE
+# Returns whether FILE.sig is a signature of the file by one of the signers: is_signed FILE
 is_signed() {
     ssh-keygen -Y verify -f "$signers" -I "$signer" -n "$namespace" -s "$1.sig" <"$1"
 }
 
-# Checks the packages and the commit against the provenance: check_provenance PROVENANCE
+# Checks that the packages have the hashes that the provenance lists, and were built from a commit without changes:
+# check_provenance PROVENANCE
 check_provenance() {
     python3 - "$1" <<'END'
 import json, sys
@@ -52,7 +53,7 @@ provenance=(hidlog-*.provenance.json)
     fail "$2 must have SHA256SUMS and one provenance: use the directory of packages/build.sh"
 sha256sum --quiet --strict --check SHA256SUMS || fail "a file does not match SHA256SUMS: run packages/build.sh again"
 check_provenance "${provenance[0]}"
-# Removes the signatures, unless all of them are valid.
+# Called on exit: removes the signatures, unless all files have been signed.
 remove_partial_signatures() {
     [ -n "${is_done-}" ] || rm -f SHA256SUMS.sig "${provenance[0]}.sig"
 }
