@@ -3,7 +3,8 @@
 "use strict";
 
 (() => {
-    const { COMMANDS: { CBOR, ERROR, KEEPALIVE }, KIND } = globalThis.hidlogLog;
+    const { CBOR, ERROR, KEEPALIVE } = globalThis.hidlogBytes;
+    const { KIND } = globalThis.hidlogLog;
     // Maximum number of lines of each log that are aligned at once. The time grows with the product of both numbers.
     const MAX_ALIGNED_LINES = 400;
     const COMMANDS_WITH_CODE = [CBOR, ERROR, KEEPALIVE];

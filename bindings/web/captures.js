@@ -4,7 +4,7 @@
 "use strict";
 
 (() => {
-    const { toHex } = globalThis.hidlogBytes;
+    const { KEEPALIVE_MS, PACKET_SIZE, toHex } = globalThis.hidlogBytes;
     /** @type {Record<string, [boolean, number]>} */
     const PCAP_FORMATS = { d4c3b2a1: [true, 1000], a1b2c3d4: [false, 1000], "4d3cb2a1": [true, 1e6], a1b23c4d: [false, 1e6] };
     const SECTION_HEADER = "0a0d0d0a";
@@ -13,10 +13,6 @@
     const HEAD_BYTES = { 189: 48, 220: 64, 249: 27 };
     const LINK_USBPCAP = 249;
     const TRANSFER_INTERRUPT = 1;
-    const PACKET_BYTES = 64;
-    // A tick is inserted before a packet of the key if the packet came at least this many milliseconds after the last
-    // line with a timestamp.
-    const TICK_MS = 100;
     const decoder = new TextDecoder("utf-8");
 
     /**
@@ -150,13 +146,13 @@
         const device = isUsbpcap ? view.getUint16(19, true) : data[11];
         const report = data.subarray(head);
         const isSent = end < 0x80;
-        const isReport = kind === TRANSFER_INTERRUPT && (report.length === PACKET_BYTES || report.length === PACKET_BYTES + 1);
+        const isReport = kind === TRANSFER_INTERRUPT && (report.length === PACKET_SIZE || report.length === PACKET_SIZE + 1);
         if (!isReport || isDone === isSent) {
             return null;
         }
         const where = `interface ${frame.number} bus ${bus} device ${device}`;
         const status = view.getInt32(isUsbpcap ? 10 : 28, isUsbpcap || isLittle);
-        return { where, isSent, packet: report.subarray(report.length - PACKET_BYTES), at: frame.at, status };
+        return { where, isSent, packet: report.subarray(report.length - PACKET_SIZE), at: frame.at, status };
     };
 
     /** @param {Report} report */
@@ -191,12 +187,13 @@
                 if (status) {
                     lines.push(`# the next packet came as its transfer was ended (status ${status}): nobody read it`);
                 }
-                if (timeMs - now >= TICK_MS) {
+                // A KEEPALIVE can be due if the last line with a timestamp is this old, so the time is a line, too.
+                if (timeMs - now >= KEEPALIVE_MS) {
                     lines.push(`t ${timeMs}`);
                 }
                 lines.push(`< ${toHex(packet)}`);
             }
-            now = isSent || timeMs - now >= TICK_MS ? timeMs : now;
+            now = isSent || timeMs - now >= KEEPALIVE_MS ? timeMs : now;
         }
         return new TextEncoder().encode(`${lines.join("\n")}\n`);
     };

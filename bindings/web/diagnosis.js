@@ -3,7 +3,7 @@
 "use strict";
 
 (() => {
-    const { COMMANDS: { CBOR } } = globalThis.hidlogLog;
+    const { CBOR } = globalThis.hidlogBytes;
     const { describeEnd, describeKind, isSuccessful, isUserCommand } = globalThis.hidlogStory;
     const { explainFinding, findMissing } = globalThis.hidlogIncomplete;
     // Causes of enum hidlog_cause_code (release/hidlog.h).

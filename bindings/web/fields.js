@@ -3,13 +3,14 @@
 "use strict";
 
 (() => {
-    const { PACKET_DIGITS, COMMANDS: { CBOR, ERROR, INIT, KEEPALIVE } } = globalThis.hidlogLog;
-    const { fromHex, toHex } = globalThis.hidlogBytes;
+    const {
+        CBOR, CONTINUATION_DATA, ERROR, INIT, INITIALIZATION_DATA, KEEPALIVE, PACKET_SIZE, fromHex, toHex,
+    } = globalThis.hidlogBytes;
+    const { PACKET_DIGITS } = globalThis.hidlogLog;
     const { escapeInvisible } = globalThis.hidlogShown;
     const { findSpans, formatItem, KIND: { ARRAY, BYTES, MAP } } = globalThis.hidlogSpans;
-    const PACKET_BYTES = PACKET_DIGITS / 2;
-    // Bytes before a packet's data (CTAP 2.1, section 11.2.4).
-    const [FIRST_HEAD, NEXT_HEAD] = [7, 5];
+    // Bytes before a packet's data.
+    const [FIRST_HEAD, NEXT_HEAD] = [PACKET_SIZE - INITIALIZATION_DATA, PACKET_SIZE - CONTINUATION_DATA];
     // The ranges of fields in authenticator data (WebAuthn, section 6.1). A credential ID follows its length.
     const AUTH_DATA_RANGES = new Map([["rpIdHash", [0, 32]], ["flags", [32, 33]], ["signCount", [33, 37]], ["aaguid", [37, 53]]]);
     const [ID_LENGTH_AT, ID_AT] = [53, 55];
@@ -45,7 +46,7 @@
 
         /** Number of bytes in all packets. */
         get size() {
-            return PACKET_BYTES * this.packets.length;
+            return PACKET_SIZE * this.packets.length;
         }
 
         /**
@@ -53,11 +54,9 @@
          * @param {number} at
          */
         place(at) {
-            const first = PACKET_BYTES - FIRST_HEAD;
-            const beyond = at - first;
-            const perPacket = PACKET_BYTES - NEXT_HEAD;
+            const beyond = at - INITIALIZATION_DATA;
             return this.base + (beyond < 0 ? FIRST_HEAD + at
-                : PACKET_BYTES * (1 + Math.floor(beyond / perPacket)) + NEXT_HEAD + beyond % perPacket);
+                : PACKET_SIZE * (1 + Math.floor(beyond / CONTINUATION_DATA)) + NEXT_HEAD + beyond % CONTINUATION_DATA);
         }
 
         /**
@@ -247,12 +246,12 @@
         /** @type {{ fields: Viewer.Field[], packets: Viewer.Packet[] }} */
         const all = { fields: [], packets: [] };
         for (const message of messages) {
-            const { fields, packets } = makeFields(message, explain(message), PACKET_BYTES * all.packets.length);
+            const { fields, packets } = makeFields(message, explain(message), PACKET_SIZE * all.packets.length);
             all.fields.push(...fields);
             all.packets.push(...packets);
         }
         return all;
     };
 
-    globalThis.hidlogFields = { makeAllFields, PACKET_BYTES };
+    globalThis.hidlogFields = { makeAllFields };
 })();

@@ -3,7 +3,7 @@
 "use strict";
 
 (() => {
-    const { toHex } = globalThis.hidlogBytes;
+    const { PACKET_SIZE, toHex } = globalThis.hidlogBytes;
     // Number of bytes at the start of a file that are decoded to recognize it.
     const MAX_EXAMINED_BYTES = 4096;
     const OPEN_LOG = "Open a session log or a USB capture.";
@@ -94,7 +94,7 @@
     // A packet, or another input of a log.
     const PACKET_OR_INPUT = /^(?:(?:> \d+|<) [0-9a-f]{128}|[tpks] \d+(?: .*)?)$/i;
     // Number of hexadecimal digits of a packet, and maximum number of characters of a line in a message.
-    const [PACKET_DIGITS, MAX_SHOWN] = [128, 60];
+    const [PACKET_DIGITS, MAX_SHOWN] = [2 * PACKET_SIZE, 60];
 
     /**
      * Why a line is not a log line, if this is due to a common mistake, or "".

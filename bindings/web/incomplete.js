@@ -3,14 +3,16 @@
 "use strict";
 
 (() => {
-    const { KIND, COMMANDS: { ERROR, INIT } } = globalThis.hidlogLog;
-    // The ERROR code for an invalid channel, and the broadcast channel.
-    const [ERR_INVALID_CHANNEL, BROADCAST] = [0x0b, 0xffffffff];
+    const {
+        BROADCAST, CONTINUATION_DATA, ERROR, INIT, INITIALIZATION_DATA, LAST_SEQUENCE, LONGEST_MESSAGE,
+    } = globalThis.hidlogBytes;
+    const { KIND } = globalThis.hidlogLog;
+    // The ERROR code for an invalid channel (CTAP 2.1, section 11.2.9.1.6).
+    const ERR_INVALID_CHANNEL = 0x0b;
     // The member `expected` of a finding about a request on a channel that was not allocated (judged_host.py).
     const INVALID_CHANNEL = "error 0b";
-    // Data bytes of an initialization and of a continuation packet; packets and bytes of the longest message (CTAP 2.1,
-    // 11.2.4).
-    const [FIRST_BYTES, NEXT_BYTES, MAX_PACKETS, MAX_LENGTH] = [57, 59, 129, 7609];
+    // Number of packets of the longest message.
+    const MAX_PACKETS = LAST_SEQUENCE + 2;
     // Maximum number of lines that are searched for a message's first packet, or for its response.
     const MAX_LINES = 20_000;
 
@@ -69,14 +71,14 @@
             return false;
         }
         const length = log.byte(first, 5) * 256 + log.byte(first, 6);
-        let [received, next, hasGap] = [FIRST_BYTES, 0, isVerified];
+        let [received, next, hasGap] = [INITIALIZATION_DATA, 0, isVerified];
         for (const at of others) {
             if (session.kindAt(at) === KIND.KEY) {
                 const isResponse = isInitialization(log, at) && (log.byte(at, 4) & 0x7f) !== ERROR;
-                return isResponse && hasGap && received < length && length <= MAX_LENGTH;
+                return isResponse && hasGap && received < length && length <= LONGEST_MESSAGE;
             }
             hasGap ||= log.byte(at, 4) > next;
-            received += NEXT_BYTES;
+            received += CONTINUATION_DATA;
             next = log.byte(at, 4) + 1;
         }
         return false;

@@ -4,11 +4,12 @@
 "use strict";
 
 (() => {
+    const { CONTINUATION_DATA, INITIALIZATION_DATA, LONGEST_MESSAGE, PACKET_SIZE } = globalThis.hidlogBytes;
     const INITIAL_LENGTH = 1024;
-    const PACKET_DIGITS = 128;
+    // Number of hexadecimal digits of a packet.
+    const PACKET_DIGITS = 2 * PACKET_SIZE;
     // Numbers with more digits may not be exact.
     const MAX_EXACT_DIGITS = 15;
-    const MAX_MESSAGE = 7609;
     const KIND_NAMES = ["host", "key", "tick", "presence", "new key", "signature", "comment", "need", "count", "empty"];
     const [HOST, KEY, TICK, PRESENCE, NEW_KEY, SIGNATURE, COMMENT, NEED, COUNT, EMPTY] = KIND_NAMES.keys();
     const END_NAMES = ["", "answered", "refused", "timed out", "replaced", "dropped", "forgotten", "unknown"];
@@ -222,11 +223,11 @@
         }
 
         get received() {
-            return Math.min(this.length, 57 + 59 * this.next);
+            return Math.min(this.length, INITIALIZATION_DATA + CONTINUATION_DATA * this.next);
         }
 
         get isWhole() {
-            return this.received === this.length && this.length <= MAX_MESSAGE;
+            return this.received === this.length && this.length <= LONGEST_MESSAGE;
         }
 
         /**
@@ -493,7 +494,5 @@
         NEWLINE, takeFirstLines, hasMatch, iterateTexts, Log, KeyMessage, Column, Transaction, hexDigitValues, readTimestamp, PACKET_DIGITS,
         KIND: { HOST, KEY, TICK, PRESENCE, NEW_KEY, SIGNATURE, COMMENT, NEED, COUNT, EMPTY },
         END: { ANSWERED, REFUSED, TIMED_OUT, REPLACED, DROPPED, FORGOTTEN, UNKNOWN },
-        // CTAPHID commands (CTAP 2.1, section 11.2.9).
-        COMMANDS: { PING: 0x01, INIT: 0x06, CBOR: 0x10, KEEPALIVE: 0x3b, ERROR: 0x3f },
     };
 })();

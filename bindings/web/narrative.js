@@ -3,8 +3,7 @@
 "use strict";
 
 (() => {
-    const { CBOR, INIT, PING } = globalThis.hidlogLog.COMMANDS;
-    const { STATUSES } = globalThis.hidlogBytes;
+    const { CBOR, INIT, PING, STATUSES } = globalThis.hidlogBytes;
     const BATCH_SIZE = 1024;
     /** @type {Record<number, [string, string]>} */
     const COMMAND_NAMES = {

@@ -3,6 +3,7 @@
 "use strict";
 
 (() => {
+    const { KEEPALIVE } = globalThis.hidlogBytes;
     const { BROADCAST } = globalThis.hidlogSession;
     const { formatPause, roundDown } = globalThis.hidlogLayout;
     const HEAD_HEIGHT = 28;
@@ -202,7 +203,7 @@
     const drawRow = (pen, lanes, row, y) => {
         const { line } = row;
         const host = lanes.ofChannel(line.channel);
-        const keepalive = line.message?.command === 0x3b ? [4, 4] : [];
+        const keepalive = line.message?.command === KEEPALIVE ? [4, 4] : [];
         const noise = row.noise ? [2, 5] : null;
         const left = lanes.places[0] + 8;
         /** @param {string} colour */

@@ -8,7 +8,7 @@
     const decoder = new TextDecoder();
     const SPACE = 32;
     const MAX_LINE = 255;
-    const BROADCAST = "ffffffff";
+    const BROADCAST = globalThis.hidlogBytes.BROADCAST.toString(16);
     // Maximum number of channels that are listed.
     const MAX_CHANNELS = 200;
     // Number of lines to read before the clock is checked again.

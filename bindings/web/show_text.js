@@ -2,8 +2,8 @@
 "use strict";
 
 (() => {
-    const COMMAND_CBOR = 0x10;
-    const COMMANDS_WITH_NAMES = [0x3b, 0x3f];
+    const { CBOR, ERROR, KEEPALIVE } = globalThis.hidlogBytes;
+    const COMMANDS_WITH_NAMES = [KEEPALIVE, ERROR];
     const PACKET_PREFIX = /^(?:> \d+|<) [0-9a-f]{8} /;
     const LAST_WORD = / {2}(\w+)$/;
     // The RP ID in an explained request, a string in diagnostic notation: a backslash escapes quotes and backslashes.
@@ -170,7 +170,7 @@
          */
         name(message) {
             const first = this.rest(message.lines[0]);
-            if (message.command === COMMAND_CBOR && message.isWhole) {
+            if (message.command === CBOR && message.isWhole) {
                 const last = /** @type {Viewer.Line} */ (message.lines.at(-1));
                 const item = this.words(last).below.find(isFirstLine) ?? "CBOR";
                 return LAST_WORD.exec(item)?.[1] ?? item.split(" ").slice(0, 2).join(" ");
@@ -192,7 +192,7 @@
             if (!message.isWhole) {
                 return `${rest}  (incomplete)`;
             }
-            return message.command === COMMAND_CBOR ? `${rest}  ${this.name(message)}` : rest;
+            return message.command === CBOR ? `${rest}  ${this.name(message)}` : rest;
         }
 
         /**

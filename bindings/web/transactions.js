@@ -3,7 +3,8 @@
 "use strict";
 
 (() => {
-    const { COMMANDS: { ERROR, KEEPALIVE }, END, KIND } = globalThis.hidlogLog;
+    const { ERROR, KEEPALIVE } = globalThis.hidlogBytes;
+    const { END, KIND } = globalThis.hidlogLog;
     const [NEWLINE, COLON, ZERO, NINE] = [10, 58, 48, 57];
     const [LATE, BY_ERROR, DROPPED, REPLACED, FORGOTTEN, UNKNOWN] =
         Array.from("ledrfu", (letter) => letter.charCodeAt(0));

@@ -149,10 +149,12 @@ declare namespace Viewer {
 declare var hidlogBytes: {
     toHex(bytes: Uint8Array): string, fromHex(text: string): Uint8Array, fromBase64(text: string): Uint8Array,
     toBase64(bytes: Uint8Array): string, unpack(packed: Uint8Array): Uint8Array, STATUSES: Record<number, string>,
+    PING: number, INIT: number, CBOR: number, KEEPALIVE: number, ERROR: number,
+    PACKET_SIZE: number, INITIALIZATION_DATA: number, CONTINUATION_DATA: number, LAST_SEQUENCE: number,
+    LONGEST_MESSAGE: number, BROADCAST: number, KEEPALIVE_MS: number,
 };
 declare var hidlogLog: {
-    PACKET_DIGITS: number, NEWLINE: number, COMMANDS: Record<"CBOR" | "ERROR" | "INIT" | "KEEPALIVE" | "PING", number>,
-
+    PACKET_DIGITS: number, NEWLINE: number,
     KIND: Record<
         "HOST" | "KEY" | "TICK" | "PRESENCE" | "NEW_KEY" | "SIGNATURE" | "COMMENT" | "NEED" | "COUNT" | "EMPTY", number
     >,
@@ -245,7 +247,6 @@ declare var hidlogShown: {
     escapeInvisible(text: string): string,
 };
 declare var hidlogFields: {
-    PACKET_BYTES: number,
     makeAllFields(messages: Viewer.Message[], explain: (message: Viewer.Message) => string[]):
         { fields: Viewer.Field[], packets: Viewer.Packet[] },
 };
