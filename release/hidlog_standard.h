@@ -98,4 +98,15 @@ enum hidlog_command {
     HIDLOG_COMMAND_CONFIG = 0x0d,
 };
 
+/* CTAP 2.1, section 11.2, and 8 for the nesting of CBOR. */
+enum hidlog_limit {
+    HIDLOG_PACKET_SIZE = 64,
+    HIDLOG_INITIALIZATION_DATA = 57,
+    HIDLOG_CONTINUATION_DATA = 59,
+    HIDLOG_LAST_SEQUENCE = 127,
+    HIDLOG_LONGEST_MESSAGE = 7609,
+    HIDLOG_KEEPALIVE_MS = 100,
+    HIDLOG_CBOR_LEVELS = 4,
+};
+
 #endif

@@ -275,6 +275,9 @@ def to_c_header() -> str:
     body += to_c_enum("ctaphid_error", "HIDLOG_CTAPHID_", read_pairs(read_table("ctaphid_errors")), "11.2.9.1.6")
     body += to_c_enum("ctaphid_command", "HIDLOG_CTAPHID_", read_pairs(read_table("ctaphid_commands")), "11.2.9")
     body += to_c_enum("command", "HIDLOG_", commands, "6")
+    # The broadcast channel is not an int, as a constant of an enumeration must be.
+    limits = [pair for pair in read_pairs(read_table("limits"), "value") if pair[1] != "BROADCAST"]
+    body += to_c_enum("limit", "HIDLOG_", limits, "11.2, and 8 for the nesting of CBOR")
     return f"/* {GENERATED_NOTE} */\n#ifndef HIDLOG_STANDARD_H\n#define HIDLOG_STANDARD_H\n{body}\n#endif\n"
 
 

@@ -4,7 +4,7 @@
 
 // The length of a channel ID, and offsets in packets of INIT on the broadcast channel: the end of the nonce, in request
 // and response, and the new channel ID in the response. INIT is the command byte.
-enum { CHANNEL = 4, NONCE_END = 15, NEW_CHANNEL_AT = 15, INIT = 0x86 };
+enum { CHANNEL = 4, NONCE_END = 15, NEW_CHANNEL_AT = 15, INIT = 0x80 | HIDLOG_CTAPHID_INIT };
 
 static const uint8_t broadcast[CHANNEL] = {0xff, 0xff, 0xff, 0xff};
 
@@ -26,7 +26,7 @@ static bool is_same_sender(const struct packet_queue *queue, const uint8_t *firs
     return one == other || (one > queue->channel && other > queue->channel);
 }
 
-void packet_queue_record_channel(struct packet_queue *queue, const uint8_t packet[QUEUE_PACKET]) {
+void packet_queue_record_channel(struct packet_queue *queue, const uint8_t packet[HIDLOG_PACKET_SIZE]) {
     if (is_broadcast(packet) && packet[CHANNEL] == INIT) {
         uint32_t allocated = read_channel_id(packet + NEW_CHANNEL_AT);
         queue->channel = allocated > queue->channel ? allocated : queue->channel;
@@ -47,7 +47,7 @@ static size_t find_last_to_take(const struct packet_queue *queue) {
     return last;
 }
 
-void packet_queue_add(struct packet_queue *queue, const uint8_t packet[QUEUE_PACKET]) {
+void packet_queue_add(struct packet_queue *queue, const uint8_t packet[HIDLOG_PACKET_SIZE]) {
     uint64_t turn = queue->turn;
     for (size_t i = 0; i < queue->count; i++) {
         const struct waiting_packet *other = &queue->packets[i];
@@ -66,7 +66,7 @@ void packet_queue_add(struct packet_queue *queue, const uint8_t packet[QUEUE_PAC
     added->turn = turn;
 }
 
-bool packet_queue_take(struct packet_queue *queue, uint8_t packet[QUEUE_PACKET]) {
+bool packet_queue_take(struct packet_queue *queue, uint8_t packet[HIDLOG_PACKET_SIZE]) {
     size_t first = 0;
     if (queue->count == 0) {
         return false;
@@ -74,7 +74,7 @@ bool packet_queue_take(struct packet_queue *queue, uint8_t packet[QUEUE_PACKET])
     for (size_t i = 1; i < queue->count; i++) {
         first = queue->packets[i].turn < queue->packets[first].turn ? i : first;
     }
-    memcpy(packet, queue->packets[first].bytes, QUEUE_PACKET);
+    memcpy(packet, queue->packets[first].bytes, HIDLOG_PACKET_SIZE);
     queue->turn = queue->packets[first].turn;
     drop_packet(queue, first);
     return true;

@@ -4,15 +4,16 @@
 #ifndef PACKET_QUEUE_H
 #define PACKET_QUEUE_H
 
+#include "hidlog_standard.h"
 #include <stdbool.h>
 #include <stddef.h>
 #include <stdint.h>
 
-// Capacity of the queue, and size of a packet. A message has at most 129 packets, so three messages always fit.
-enum { QUEUE_CAPACITY = 512, QUEUE_PACKET = 64 };
+// Capacity of the queue. A message has at most 129 packets, so three messages always fit.
+enum { QUEUE_CAPACITY = 512 };
 
 struct waiting_packet {
-    uint8_t bytes[QUEUE_PACKET];
+    uint8_t bytes[HIDLOG_PACKET_SIZE];
     uint64_t turn; // lower turns go first; older packets first within a turn
 };
 
@@ -24,13 +25,13 @@ struct packet_queue {
 };
 
 // Adds a packet. If the queue is full, drops the packet that would be taken last, which may be the new one.
-void packet_queue_add(struct packet_queue *queue, const uint8_t packet[QUEUE_PACKET]);
+void packet_queue_add(struct packet_queue *queue, const uint8_t packet[HIDLOG_PACKET_SIZE]);
 
 // If this packet, which the key sent, is a response to INIT on the broadcast channel, records the channel ID that it
 // allocates. Packets on channels that are not allocated count as packets from one sender.
-void packet_queue_record_channel(struct packet_queue *queue, const uint8_t packet[QUEUE_PACKET]);
+void packet_queue_record_channel(struct packet_queue *queue, const uint8_t packet[HIDLOG_PACKET_SIZE]);
 
 // Removes the packet whose turn is next from the queue, and copies it to `packet`. Returns false if the queue is empty.
-bool packet_queue_take(struct packet_queue *queue, uint8_t packet[QUEUE_PACKET]);
+bool packet_queue_take(struct packet_queue *queue, uint8_t packet[HIDLOG_PACKET_SIZE]);
 
 #endif

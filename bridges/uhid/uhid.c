@@ -28,14 +28,12 @@
 #include <time.h>
 #include <unistd.h>
 
-// The key sends a KEEPALIVE every 100 ms, and an incomplete message times out after 500 ms. A log line has at most 255
-// bytes, and hidlog_key_replay_lines writes at most 18,000 for it. The kernel queues fewer than 64 events.
+// An incomplete message times out after 500 ms. A log line has at most 255 bytes, and hidlog_key_replay_lines writes at
+// most 18,000 for it. The kernel queues fewer than 64 events.
 enum {
-    KEEPALIVE_MS = 100,
     MESSAGE_MS = 500,
     MAX_LINE = 255,
     MAX_TEXT = 18000,
-    PACKET = 64,
     MAX_EVENTS = 64,
     PATH = 4096
 };
@@ -78,10 +76,10 @@ static unsigned parse_hex_digit(uint8_t letter) {
 }
 
 // Sends a packet of the key, which is in hexadecimal, to the kernel.
-static bool send_packet(const uint8_t digits[2 * PACKET]) {
+static bool send_packet(const uint8_t digits[2 * HIDLOG_PACKET_SIZE]) {
     struct uhid_event event = {.type = UHID_INPUT2};
-    event.u.input2.size = PACKET;
-    for (size_t i = 0; i < PACKET; i++) {
+    event.u.input2.size = HIDLOG_PACKET_SIZE;
+    for (size_t i = 0; i < HIDLOG_PACKET_SIZE; i++) {
         event.u.input2.data[i] = (uint8_t)(parse_hex_digit(digits[2 * i]) << 4 | parse_hex_digit(digits[2 * i + 1]));
     }
     packet_queue_record_channel(&queue, event.u.input2.data);
@@ -188,7 +186,7 @@ static bool provide_need(const struct hidlog_need *need) {
         if (word != NULL) {
             return pass_input('p', word);
         }
-        if (now_ms() - last_tick_ms >= KEEPALIVE_MS) {
+        if (now_ms() - last_tick_ms >= HIDLOG_KEEPALIVE_MS) {
             last_tick_ms = now_ms();
             return pass_input('t', "");
         }
@@ -200,7 +198,7 @@ static bool provide_need(const struct hidlog_need *need) {
 
 // Passes the next packet in the queue to the key, if any.
 static bool pass_next_packet(void) {
-    uint8_t packet[PACKET];
+    uint8_t packet[HIDLOG_PACKET_SIZE];
     return !packet_queue_take(&queue, packet) || pass_bytes('>', packet, sizeof packet);
 }
 
@@ -232,9 +230,11 @@ static bool handle_event(void) {
         return true;
     }
     // Skip the report ID (0) before the packet, if any, and pad a short packet with zeros.
-    size_t skipped = event.u.output.size > PACKET ? 1 : 0;
+    size_t skipped = event.u.output.size > HIDLOG_PACKET_SIZE ? 1 : 0;
     size_t size = event.u.output.size - skipped;
-    memset(event.u.output.data + skipped + (size < PACKET ? size : PACKET), 0, size < PACKET ? PACKET - size : 0);
+    if (size < HIDLOG_PACKET_SIZE) {
+        memset(event.u.output.data + skipped + size, 0, HIDLOG_PACKET_SIZE - size);
+    }
     packet_queue_add(&queue, event.u.output.data + skipped);
     return true;
 }
@@ -266,7 +266,7 @@ static int get_poll_timeout_ms(uint32_t kind, bool is_idle) {
     if (kind == HIDLOG_NEED_NONE) {
         return is_idle ? -1 : MESSAGE_MS;
     }
-    uint64_t now = now_ms(), keepalive_ms = last_tick_ms + KEEPALIVE_MS;
+    uint64_t now = now_ms(), keepalive_ms = last_tick_ms + HIDLOG_KEEPALIVE_MS;
     uint64_t due_ms = keepalive_ms < options.user.due_ms ? keepalive_ms : options.user.due_ms;
     return due_ms <= now ? 0 : (int)(due_ms - now);
 }
