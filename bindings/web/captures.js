@@ -187,7 +187,7 @@
                 if (status) {
                     lines.push(`# the next packet came as its transfer was ended (status ${status}): nobody read it`);
                 }
-                // A KEEPALIVE can be due if the last line with a timestamp is this old, so the time is a line, too.
+                // Within the KEEPALIVE interval, a key's behavior does not depend on time.
                 if (timeMs - now >= KEEPALIVE_MS) {
                     lines.push(`t ${timeMs}`);
                 }
