@@ -6,7 +6,8 @@
     const { KIND } = globalThis.hidlogLog;
 
     /**
-     * Returns the packet with this number, from 1, that the key sent for the input at `from`; -1 is before any input.
+     * Returns the packet with this number (the first is 1) among those that the key sent after the input with the line
+     * index `from`. If `from` is -1, these are the packets before the first input.
      * @param {Viewer.Session} session
      * @param {number} from
      * @param {number} packet

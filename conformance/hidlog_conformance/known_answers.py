@@ -82,7 +82,7 @@ class Secrets:
 
 
 class KnownAnswers(AnswerJudge):
-    """Checks responses to the only host that uses the device."""
+    """Checks the responses of a device that no other host uses, so that the device's state is known."""
 
     def __init__(self, recording: JudgedRecording, platform: Platform) -> None:
         super().__init__(recording)

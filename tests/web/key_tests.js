@@ -46,7 +46,7 @@ const signIn = async (body = {}, more = {}) => {
     return post("/rp/sign_in_complete", { id: used.id, ...used.toJSON().response });
 };
 
-/** A clock that does not depend on the machine's speed, so that recordings differ only in their keys. */
+/** A clock that does not depend on the machine's speed, so that recordings differ only in their key pairs. */
 const makeSteadyClock = () => {
     let timeMs = 0;
     return (passed = 1) => (timeMs += passed);

@@ -32,7 +32,7 @@ const describeMember = ({ get, set, value, enumerable, configurable, writable })
     enumerable && "enumerable", configurable && "configurable", writable && "writable",
 ].filter(Boolean).join(", ");
 
-/** Describes an object as a page sees it: own members, members of for-in, and members of each prototype. */
+/** Describes an object as a page sees it: own members, the names that for-in lists, and members of each prototype. */
 const describeObject = (object, names) => {
     const listed = [];
     for (const name in object) {

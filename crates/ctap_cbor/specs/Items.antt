@@ -114,7 +114,7 @@ fault_steps kind bytes = passed kind bytes
 
 -- ---- reading one item: its head and, for a string, the content (RFC 8949, section 3)
 
--- An item without the content of an array or map.
+-- A scalar, or the head of an array or map without its content.
 pub data Part : Type 0 where
   One : Scalar → Part
   OpensArray : ℕ → Part

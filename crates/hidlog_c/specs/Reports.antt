@@ -90,10 +90,10 @@ ReportsCredential None place credential result = (credential.1 ≡ credential.0)
 ReportsCredential (Some d) place credential result =
     ReportsRow d.session.machine.core.state.rows place credential result
 
--- The effect of reading the meters, and the call's return value.
-abbrev pub ReportsMeters : Option DeviceState → CStats × CStats → ℤ → Type 0
-ReportsMeters None meters result = (meters.1 ≡ meters.0) × (result ≡ ERR_NOT_INITIALIZED)
-ReportsMeters (Some d) meters result = (meters.1 ≡ to_c_stats d.session.meters) × (result ≡ pos 0)
+-- The effect of reading the key's statistics, and the call's return value.
+abbrev pub ReportsStats : Option DeviceState → CStats × CStats → ℤ → Type 0
+ReportsStats None meters result = (meters.1 ≡ meters.0) × (result ≡ ERR_NOT_INITIALIZED)
+ReportsStats (Some d) meters result = (meters.1 ≡ to_c_stats d.session.meters) × (result ≡ pos 0)
 
 -- A count, or ERR_NOT_INITIALIZED if the key is not initialized.
 abbrev pub count_or : (DeviceState → ℕ) → Option DeviceState → ℤ

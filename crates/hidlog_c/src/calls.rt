@@ -11,7 +11,7 @@ ghost use Rattle.hidlog_c.specs.Changed.{Adds, Clears, Removes, SavesKey};
 ghost use Rattle.hidlog_c.specs.Key.{TakesInput, ReadsPacket};
 ghost use Rattle.hidlog_c.specs.Key.{TakesCheckedInput, parsed_presence_number, signature_input};
 ghost use Rattle.hidlog_c.specs.Commands.{ReplaysLines};
-ghost use Rattle.hidlog_c.specs.Reports.{ReportsCredential, ReportsMeters, ReportsNeed, count_or, credential_count, pending_assertions, waiting_packets};
+ghost use Rattle.hidlog_c.specs.Reports.{ReportsCredential, ReportsStats, ReportsNeed, count_or, credential_count, pending_assertions, waiting_packets};
 ghost use Rattle.hidlog_c.specs.Key.{Initializes};
 
 use crate::capacity::CAPACITY;
@@ -250,7 +250,7 @@ pub extern "C" fn hidlog_key_pending_assertions(key: &mut KeyHandle) -> i32
 #[unsafe(no_mangle)]
 pub extern "C" fn hidlog_key_get_stats(key: &mut KeyHandle, meters: &mut CStats) -> i32
     ensures same { device_of key.new ≡ device_of key.old }
-    ensures meters { ReportsMeters (device_of key.old) (meters.old, meters.new) result }
+    ensures meters { ReportsStats (device_of key.old) (meters.old, meters.new) result }
 {
     key.meters(meters)
 }

@@ -12,7 +12,7 @@ use crate::session_start::{new_command_session, open};
 use session_log::{LogFault, ReplayMode, SliceIn};
 use token_session::Session;
 
-/// Plays the log on the session. After that, the target still writes to the same buffer.
+/// Processes the lines of the log on the session, and writes the output with `writer`, whose buffer stays the same.
 fn play(
     command: ReplayMode,
     session: &mut Session<CAPACITY>,

@@ -8,7 +8,7 @@ ghost use Rattle.hidlog_c.specs.Key.{TakesInput, ReadsPacket};
 ghost use Rattle.hidlog_c.specs.Key.{refusal_of};
 ghost use Rattle.hidlog_c.specs.Commands.{ReplaysLines};
 ghost use Rattle.hidlog_c.specs.Key.{Begins};
-ghost use Rattle.hidlog_c.specs.Reports.{ReportsCredential, ReportsMeters, ReportsNeed, count_or, credential_count, pending_assertions, waiting_packets};
+ghost use Rattle.hidlog_c.specs.Reports.{ReportsCredential, ReportsStats, ReportsNeed, count_or, credential_count, pending_assertions, waiting_packets};
 
 use crate::capacity::CAPACITY;
 use crate::causes::CauseReport;
@@ -177,7 +177,7 @@ impl KeyHandle {
     /// Stores the meters of the session.
     pub fn meters(&mut self, meters: &mut CStats) -> i32
         ensures same { device_of self.new ≡ device_of self.old }
-        ensures meters { ReportsMeters (device_of self.old) (meters.old, meters.new) result }
+        ensures meters { ReportsStats (device_of self.old) (meters.old, meters.new) result }
     {
         if !self.is_initialized() {
             return ERR_NOT_INITIALIZED;

@@ -9,7 +9,7 @@ use crate::outcome::CResult;
 use session_log::{LogFault, SliceIn, process_live_lines};
 use token_session::Session;
 
-/// Plays the lines. After that, the target still writes to the same buffer.
+/// Processes the lines of the log on the session, and writes the output with `writer`, whose buffer stays the same.
 fn play(
     session: &mut Session<CAPACITY>,
     log: &[u8],
@@ -24,7 +24,8 @@ fn play(
     process_live_lines(&mut SliceIn::new(log), writer, session)
 }
 
-/// Plays the lines, and writes the output of [`process_live_lines`] to the start of `out`.
+/// Processes the lines of the log on the session, and writes the output of [`process_live_lines`] to the start of
+/// `out`.
 pub fn play_lines(session: &mut Session<CAPACITY>, log: &[u8], out: &mut [u8]) -> CResult
     ensures { ArePlayed session.old session.new log.now out.new result }
 {

@@ -437,8 +437,9 @@ needs_presence m =
     has_status 1 m.transaction.command || (has_status 7 m.transaction.command || (has_status 0x0b m.transaction.command
     || (has_status 2 m.transaction.command && not m.named.is_silent)))
 
--- The request after a reply of the caller, or None if it didn't wait for a reply of this kind. Without a KEEPALIVE it
--- is unknown which reply is needed, and a key may report PROCESSING while it waits for the user.
+-- The request after a reply of the caller (user presence, a key pair or a signature), or None if the request doesn't
+-- wait for a reply of this kind. Before the first KEEPALIVE it is unknown which reply is needed, so each is accepted. A
+-- key may report PROCESSING while it waits for the user, so user presence is then accepted, too, but once.
 abbrev pub request_after_reply : Option AwaitedReply → AwaitedReply → ℕ → OpenTransaction → Option OpenTransaction
 request_after_reply (Some Presence) Presence now m = Some (record m { presence_ms = Some (now - m.at); awaited = None })
 request_after_reply (Some Key) Key now m = Some (record m { awaited = Some Signature })
@@ -469,9 +470,10 @@ channel_replied reply now c = if is_reply_unclear c then c else with_current (re
 abbrev pub replied_transaction : AwaitedReply → ℕ → Channel → Option Transaction
 replied_transaction reply now c = if is_reply_unclear c then None else transaction_of (request_replied reply now c.current)
 
--- The role of a reply of the caller.
-abbrev pub replied_role : AwaitedReply → ℕ → Channel → Role
-replied_role reply now c =
+-- The role of a reply of the caller: Owned if it belongs to a transaction, even if it is unknown to which one; Reply if
+-- no request waits for it.
+abbrev pub role_of_reply : AwaitedReply → ℕ → Channel → Role
+role_of_reply reply now c =
     if is_reply_unclear c then Owned else if is_some (request_replied reply now c.current) then Owned else Reply
 
 -- The open transaction of a channel, or else the last transaction that got a response on it.

@@ -10,7 +10,7 @@ ghost use Rattle.session_walk.specs.Messages.{is_whole};
 ghost use Rattle.std.specs.Prelude.{length, not};
 ghost use Rattle.session_walk.specs.Walks.{packet_time_of, may_wait};
 ghost use Rattle.std.specs.Prelude.{◌&&◌, ◌-◌};
-ghost use Rattle.session_walk.specs.Whole.{channel_replied, replied_role, replied_transaction, ends_by_init, init_begun, role_outside, is_idle, matches_nonce, may_be_processing, open_init};
+ghost use Rattle.session_walk.specs.Whole.{channel_replied, role_of_reply, replied_transaction, ends_by_init, init_begun, role_outside, is_idle, matches_nonce, may_be_processing, open_init};
 
 use crate::awaited::AwaitedReply;
 use crate::entry::Role;
@@ -198,8 +198,9 @@ impl Channel {
             && !self.is_answering()
     }
 
-    /// Returns whether it is unknown which message the device is processing.
-    pub fn is_unclear(&self) -> bool
+    /// Returns whether it is unknown which message the device is processing, and thus to which transaction its next
+    /// packet belongs.
+    pub fn is_owner_unknown(&self) -> bool
         ensures { result ≡ is_owner_unknown self.now }
     {
         self.is_ambiguous || self.ambiguous_count > 0
@@ -209,7 +210,7 @@ impl Channel {
     pub fn may_be_processing(&self, now: u64) -> bool
         ensures { result ≡ may_be_processing now self.now }
     {
-        self.is_unclear() && now.saturating_sub(self.last_active_at) < IDLE_TIMEOUT_MS
+        self.is_owner_unknown() && now.saturating_sub(self.last_active_at) < IDLE_TIMEOUT_MS
     }
 
     /// Returns the role of a packet outside any open message: `role`, unless the packet may belong to an unidentified
@@ -407,7 +408,7 @@ impl Channel {
             matches!(&self.current, Some(current)
                 if current.awaited.is_some() && current.cancelled.is_none())
         } else {
-            self.is_unclear()
+            self.is_owner_unknown()
                 || self.has_ambiguous_keepalive
                 || is_processing(&self.current)
                 || is_processing(&self.contender)
@@ -419,9 +420,9 @@ impl Channel {
     pub fn reply(&mut self, reply: AwaitedReply, now: u64) -> (Option<Transaction>, Role)
         ensures state { self.new ≡ channel_replied reply now self.old }
         ensures transaction { result.0 ≡ replied_transaction reply now self.old }
-        ensures role { result.1 ≡ replied_role reply now self.old }
+        ensures role { result.1 ≡ role_of_reply reply now self.old }
     {
-        if self.contender.is_some() || self.is_unclear() || self.has_ambiguous_keepalive {
+        if self.contender.is_some() || self.is_owner_unknown() || self.has_ambiguous_keepalive {
             return (None, Role::Owned);
         }
         let Some(mut current) = self.current else {

@@ -135,7 +135,7 @@ impl Channels {
     }
 
     /// Returns whether an unidentified message may be in process on any channel.
-    pub fn is_unclear(&self, now: u64) -> bool
+    pub fn may_be_processing(&self, now: u64) -> bool
         ensures { result ≡ may_any_be_processing now self.now.list }
     {
         self.list

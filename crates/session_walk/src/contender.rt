@@ -12,14 +12,15 @@ use crate::rp_id::RpId;
 use crate::transaction::{End, OpenTransaction, Transaction, TransactionEnds};
 
 impl Channel {
-    /// Returns whether the transaction of the device's next packet is unknown after the input on line `input`. If a
-    /// second message began on the channel, the device either refuses it before the next input, or has accepted it.
-    pub fn is_unresolved(&self, input: u64) -> bool
+    /// Returns whether it is unknown to which transaction the device's next packet belongs, after the input on line
+    /// `input`. If a second message began on the channel, the device either refuses it before the next input, or has
+    /// accepted it.
+    pub fn is_owner_undecided(&self, input: u64) -> bool
         ensures { result ≡ is_owner_undecided input self.now }
     {
         match &self.contender {
-            Some(contender) => self.is_unclear() || contender.transaction.line != input,
-            None => self.is_unclear(),
+            Some(contender) => self.is_owner_unknown() || contender.transaction.line != input,
+            None => self.is_owner_unknown(),
         }
     }
 

@@ -159,7 +159,7 @@ impl Channel {
         ensures ended { ended.new.0.items ≡ ends_by_keepalive self.old ended.old.0.items }
     {
         let (input, now) = behind;
-        if self.is_unclear() {
+        if self.is_owner_unknown() {
             return None;
         }
         if is_processing(&self.contender) {
@@ -182,7 +182,7 @@ impl Channel {
         };
         keepalives > 0
             && now.saturating_sub(self.last_keepalive_at) >= MIN_TIMEOUT_MS
-            && !self.is_unresolved(input)
+            && !self.is_owner_undecided(input)
     }
 
     /// Handles a KEEPALIVE for `current`. Returns its transaction if the device is processing it.
@@ -335,7 +335,7 @@ impl Channel {
         if !is_of_asked && !is_of_held {
             return None;
         }
-        if self.is_unclear() || is_of_asked && is_of_held {
+        if self.is_owner_unknown() || is_of_asked && is_of_held {
             self.end_as_unknown(ended);
             return None;
         }

@@ -67,7 +67,7 @@ impl Channel {
             self.accept_contender(true, ended);
             return self.time_out_current(input, ambiguous, ended);
         }
-        if self.is_unresolved(input) {
+        if self.is_owner_undecided(input) {
             self.end_as_unknown(ended);
             return (None, false);
         }
@@ -135,7 +135,7 @@ impl Channel {
             ≡ (contender_timeout_result ambiguous.now self.old ended.old.0.items).transaction }
         ensures deferred { result.1 ≡ (contender_timeout_result ambiguous.now self.old ended.old.0.items).deferred }
     {
-        if self.is_unclear() {
+        if self.is_owner_unknown() {
             self.end_as_unknown(ended);
             return (None, false);
         }
@@ -179,7 +179,7 @@ impl Channel {
         ensures ended { ended.new.0.items ≡ (error_result code input self.old ended.old.0.items).ended }
         ensures transaction { result ≡ transaction_of (error_result code input self.old ended.old.0.items).transaction }
     {
-        let is_undecided = self.is_unresolved(input);
+        let is_undecided = self.is_owner_undecided(input);
         let start = self.take_refused_start(code, is_undecided);
         self.end_refused_by(code, is_undecided, &start, ended)
     }
@@ -291,7 +291,7 @@ impl Channel {
             INVALID_SEQ | MSG_TIMEOUT => false,
             CHANNEL_BUSY => self.number == BROADCAST,
             OTHER if self.number == BROADCAST => true,
-            _ => self.current.is_none() && !self.is_unclear(),
+            _ => self.current.is_none() && !self.is_owner_unknown(),
         }
     }
 }

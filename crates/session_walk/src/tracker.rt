@@ -178,7 +178,7 @@ impl TransactionTracker {
         let (count, place) = waiting;
         if count == 0 {
             self.role = self.channels.role_outside_messages(Role::Reply);
-        } else if count == 1 && !self.channels.is_unclear(self.now) {
+        } else if count == 1 && !self.channels.may_be_processing(self.now) {
             let (transaction, role) = self.channels.list[place].reply(reply, self.now);
             self.transaction = transaction;
             self.role = if requests.0 > 1 { Role::Owned } else { role };

@@ -177,7 +177,7 @@ impl Authenticator {
     }
 
     /// Tells an authenticator that needs a key pair ([`Need::KeyPair`]) that the caller cannot provide one.
-    pub fn reject_key_pair(&mut self, time_ms: u64) -> Result<Vec<Packet>, Error> {
+    pub fn refuse_key_pair(&mut self, time_ms: u64) -> Result<Vec<Packet>, Error> {
         // SAFETY: the key is initialized.
         self.handle_input(format_args!("k {time_ms} no"), |key| unsafe {
             sys::hidlog_key_refuse_key_pair(key, time_ms)
@@ -200,7 +200,7 @@ impl Authenticator {
     }
 
     /// Tells an authenticator that needs a signature ([`Need::Signature`]) that the caller cannot provide one.
-    pub fn reject_signature(&mut self, time_ms: u64) -> Result<Vec<Packet>, Error> {
+    pub fn refuse_signature(&mut self, time_ms: u64) -> Result<Vec<Packet>, Error> {
         // SAFETY: the key is initialized.
         self.handle_input(format_args!("s {time_ms} no"), |key| unsafe {
             sys::hidlog_key_refuse_signature(key, time_ms)

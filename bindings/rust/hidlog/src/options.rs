@@ -18,9 +18,9 @@ pub enum Verification {
     Failed,
 }
 
-/// Properties of a key that the verified core does not have, such as user verification. A browser uses them to check a
-/// page's options, and changes the core's responses accordingly. The recording has the core's own responses, with a
-/// comment for each change, so it still passes `hidlog check`.
+/// Properties of a key that the verified core does not have, such as user verification. [`Browser`](crate::Browser)
+/// uses them to check a page's options, and changes the core's responses accordingly. The recording has the core's own
+/// responses, with a comment for each change, so it still passes `hidlog check`.
 #[derive(Clone, Debug, Default, PartialEq, Eq)]
 pub struct AuthenticatorOptions {
     /// How the key handles user verification.

@@ -139,7 +139,7 @@ impl SecurityKey {
     fn provide_signature(&mut self, id: &Id, to_sign: &[u8]) -> Result<Vec<Packet>, Error> {
         match self.private_keys.get(id) {
             Some(private_key) => self.authenticator.provide_signature(self.now_ms(), &private_key.sign(to_sign)?),
-            None => self.authenticator.reject_signature(self.now_ms()),
+            None => self.authenticator.refuse_signature(self.now_ms()),
         }
     }
 
