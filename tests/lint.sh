@@ -1,7 +1,7 @@
 #!/usr/bin/env bash
-# Checks names against docs/change/STYLE.md, and runs shellcheck, black, mypy --strict and tsc --strict. The variable
-# `untyped` lists Python files whose types are not checked yet, and `renaming` lists folders whose names are not checked
-# yet. Files and folders may be removed from both lists, but not added.
+# Checks the names of variables, classes and constants against docs/change/STYLE.md, and runs shellcheck, black,
+# mypy --strict and tsc --strict. The variable `untyped` lists Python files whose types are not checked yet, and
+# `renaming` lists folders in whose files these names are not checked yet. Entries may be removed, but not added.
 set -euo pipefail
 cd "$(dirname "${BASH_SOURCE[0]}")/.."
 # Require these versions: other versions of black format differently, and other versions of mypy report other errors.

@@ -34,7 +34,7 @@ arguments[0]({
 });
 """
 FOCUS_SCRIPT = "arguments[0](document.activeElement.id || document.activeElement.tagName)"
-SELECTED_SCRIPT = """
+SELECTED_ROW_SCRIPT = """
 const row = document.querySelector(".row[aria-selected=true]");
 arguments[0]([row?.firstChild.textContent, row?.getAttribute("aria-level"), row?.getAttribute("aria-expanded"),
     document.querySelectorAll(".row[role=treeitem]").length]);
@@ -117,7 +117,7 @@ def iter_keyboard_errors(driver):
         if key:
             press_key(driver, key)
             driver.run("requestAnimationFrame(() => arguments[0]())")
-        selected = driver.run(SELECTED_SCRIPT)
+        selected = driver.run(SELECTED_ROW_SCRIPT)
         if expected[3] is None:
             selected[3] = None
         if selected != expected:

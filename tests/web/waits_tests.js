@@ -173,7 +173,8 @@ const testStaticMethods = async () => {
 
 const FIRST_SIGN_INS = 40;
 const ROUNDS = 25;
-// If the cost grew with the log, the ratio would be far higher. Other processes cannot cause such a ratio.
+// The time of a sign-in after many others may be at most this multiple of the time of an early one. If the time grew
+// with the length of the log, the multiple would be far higher. Other processes cannot cause it.
 const MAX_RATIO = 5;
 const MAX_ATTEMPTS = 3;
 

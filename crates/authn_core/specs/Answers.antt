@@ -359,7 +359,7 @@ abbrev pub requested_assertion : Start → Option PendingRequest → Option Asse
 requested_assertion start None = None
 requested_assertion start (Some u) = assertion_for start u.before u.asked
 
--- Whether the reply grants a reset (CTAP 2.1, section 6.6).
+-- Whether the request is a reset, and the caller's reply is the user's consent to it (CTAP 2.1, section 6.6).
 abbrev pub is_reset_granted : ParsedRequest → (reply : Event) → Bool
 is_reset_granted Reset (PresenceIs Granted) = true
 is_reset_granted asked reply = false

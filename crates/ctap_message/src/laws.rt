@@ -45,8 +45,8 @@ pub fn assertion_is_canonical()
         (drop 1 (assertion_answer id auth sig user credentials)) }
 {}
 
-/// States that iterating over a list of n bytes takes at most 2 * n steps, and that this is the step count of the
-/// iterator at the end of the list.
+/// States that iterating over a list takes at most 2 * n steps if its encoding has n bytes, and that an iterator at the
+/// end of its list has counted the list's steps, up to `MAX_STEPS`.
 #[tactic(auto, using(crate::proofs::Requests::bounded, crate::proofs::Requests::ended))]
 pub fn list_steps_are_bounded()
     ensures bound { (ts : Trees) (l : List ℕ) → IsCanonical (Array ts) l → list_steps ts ≤ 2 * length l }
