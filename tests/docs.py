@@ -24,6 +24,7 @@ names the package, and the exit status is 3.
 from __future__ import annotations
 
 import contextlib
+import functools
 import os
 import re
 import shutil
@@ -32,15 +33,11 @@ import socket
 import subprocess
 import sys
 import tempfile
-import time
-from collections.abc import Iterator
 from dataclasses import dataclass, field
 from pathlib import Path
 
 TOP = Path(__file__).resolve().parent.parent
 TIMEOUT_SECONDS = 1200
-# Seconds in which a server that another run left has ended.
-PORT_SECONDS = 60
 INDENT = "    "
 # Pages with paths of older versions, and generated pages.
 UNCHECKED_PAGES = ("CHANGELOG.md", "MAP.md")
@@ -197,6 +194,27 @@ def list_ports(command: str) -> list[str]:
     return re.findall(r"(?:--port|http\.server) (\d+)", command)
 
 
+# Enables the loopback interface of a network namespace (SIOCSIFFLAGS and IFF_UP), and runs a command in it.
+IN_NAMESPACE = (
+    "import fcntl, os, socket, struct, sys; "
+    "fcntl.ioctl(socket.socket(), 0x8914, struct.pack('16sh22x', b'lo', 1)); "
+    "os.execvp(sys.argv[1], sys.argv[1:])"
+)
+
+
+@functools.cache
+def make_namespace_command() -> list[str]:
+    """Returns the words before a command that run it in a network namespace, where no other program uses its ports, and
+    no words if this machine does not allow that."""
+    users = [] if os.geteuid() == 0 else ["--map-current-user", "--keep-caps"]
+    words = ["unshare", "--net", *users, "python3", "-c", IN_NAMESPACE]
+    try:
+        is_allowed = subprocess.run([*words, "true"], capture_output=True, check=False).returncode == 0
+    except FileNotFoundError:
+        return []
+    return words if is_allowed else []
+
+
 def is_used(port: str) -> bool:
     """Returns whether a server of this machine listens on a port."""
     try:
@@ -204,27 +222,6 @@ def is_used(port: str) -> bool:
     except OSError:
         return False
     return True
-
-
-@contextlib.contextmanager
-def reserve_ports(command: str) -> Iterator[None]:
-    """Waits until no other run of this script uses the ports of a command's servers, and holds them. Raises TimeoutError
-    if another program uses one."""
-    with contextlib.ExitStack() as held:
-        for port in sorted({port for found in BACKGROUND_SERVER.findall(command) for port in list_ports(found)}):
-            lock = held.enter_context(socket.socket(socket.AF_UNIX))
-            end = time.monotonic() + TIMEOUT_SECONDS
-            while time.monotonic() < end:
-                with contextlib.suppress(OSError):
-                    lock.bind(f"\0hidlog tests/docs.py {port}")  # an abstract address: it has no file
-                    break
-                time.sleep(0.2)
-            end = time.monotonic() + PORT_SECONDS
-            while is_used(port):
-                if time.monotonic() >= end:
-                    raise TimeoutError(f"another program uses port {port}")
-                time.sleep(0.2)
-        yield
 
 
 def wait_for_servers(command: str) -> str:
@@ -242,20 +239,16 @@ def wait_for_servers(command: str) -> str:
 
 
 def run_command(command: str, folder: Path, installed: Path | None = None) -> tuple[int, str]:
-    """Runs a command in a folder, once the ports of its servers are free. Returns its exit status and output."""
-    try:
-        with reserve_ports(command):
-            return run_and_kill(command, folder, installed)
-    except TimeoutError as error:
-        return STATUS_MISSING + 1, f"{error}\n"
-
-
-def run_and_kill(command: str, folder: Path, installed: Path | None) -> tuple[int, str]:
-    """Runs a command in a folder. Returns its exit status and output. Kills the processes that the command leaves."""
+    """Runs a command in a folder, with servers in a network namespace if possible. Returns its exit status and output.
+    Kills the processes that the command leaves."""
+    ports = [port for server in BACKGROUND_SERVER.findall(command) for port in list_ports(server)]
+    before = make_namespace_command() if ports else []
+    if not before and (used := [port for port in ports if is_used(port)]):
+        return STATUS_MISSING + 1, f"another program uses port {used[0]}\n"
     with (
         tempfile.TemporaryFile() as printed,
         subprocess.Popen(
-            ["bash", "-c", wait_for_servers(command)],
+            [*before, "bash", "-c", wait_for_servers(command)],
             cwd=folder,
             env=make_environment(installed) if installed else None,
             stdin=subprocess.DEVNULL,

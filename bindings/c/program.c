@@ -36,7 +36,8 @@ static const char help_text[] =
     "  -V, --version   Print version\n";
 
 enum { EXIT_LOG_ERROR = 1, EXIT_FAILED = 2 };
-// The value of enum hidlog_log_error for a failed read, which only programs use.
+// The error number for a log that cannot be read. hidlog.h reserves it for this program: no library function returns
+// it.
 enum { READ_ERROR = 4 };
 // Maximum lengths of a log line, and of what hidlog_key_replay_lines writes for one line (hidlog.h).
 enum { LINE_CAP = 255, LINE_OUT_CAP = 18000 };

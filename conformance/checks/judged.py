@@ -288,7 +288,8 @@ SESSIONS: List[Session] = []
 
 
 def list_supported_sessions() -> List[Session]:
-    """Returns the sessions that hidlog supports, without the choices of this project's profile."""
+    """Returns the sessions that hidlog supports, except those that test a choice which the standard leaves open
+    (`# profile:` in the header)."""
     device = LiveDevice()
     device_info = DeviceInfo.ask(device, True)
     bound = [session for session in all_sessions() if not session.head.get("profile")]

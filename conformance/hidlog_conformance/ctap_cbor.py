@@ -149,7 +149,7 @@ def decode(data: bytes) -> Any:
     reader = Reader(data)
     item = reader.read()
     if reader.place != len(data):
-        raise CborError(f"bytes after the item at {reader.place}")
+        raise CborError(f"bytes after the end of the item, from {reader.place}")
     return item
 
 

@@ -30,7 +30,7 @@ static struct hidlog_key new_key(const uint8_t *snapshot, size_t len) {
     return key;
 }
 
-static struct hidlog_credential make_credential(size_t number) {
+static struct hidlog_credential numbered_credential(size_t number) {
     struct hidlog_credential made = {.user_id_len = 2, .discoverable = 1};
     memcpy(made.rp_id_hash, rp_hash, sizeof rp_hash);
     memset(made.id, 0xaa, sizeof made.id);
@@ -136,10 +136,10 @@ int main(int count, char **words) {
     expect(HIDLOG_CAPACITY, (int64_t)capacity, "HIDLOG_CAPACITY");
     struct hidlog_key key = new_key(saved, 0);
     for (size_t number = 0; number < capacity; number++) {
-        struct hidlog_credential made = make_credential(number);
+        struct hidlog_credential made = numbered_credential(number);
         expect(hidlog_key_add_credential(&key, 0, &made), 0, "hidlog_key_add_credential");
     }
-    struct hidlog_credential more = make_credential(capacity);
+    struct hidlog_credential more = numbered_credential(capacity);
     expect(hidlog_key_add_credential(&key, 0, &more), HIDLOG_KEY_ERR_FULL, "hidlog_key_add_credential on a full key");
     expect(hidlog_key_credential_count(&key), (int64_t)capacity, "hidlog_key_credential_count");
     expect_key_store_full(&key);

@@ -12,7 +12,7 @@ const testThrowingPresence = async (key) => {
     key.presence = () => {
         throw mistake;
     };
-    expect(await expectError(createCredential(), "RangeError") === mistake, "the test's own error");
+    expect(await expectError(createCredential(), "RangeError") === mistake, "createCredential throws the error of key.presence");
     key.presence = async () => {
         throw mistake;
     };

@@ -309,7 +309,7 @@ class ObservedSession:
         made = self.create()
         return [read_authenticator_data(made)["flags"], read_authenticator_data(self.get(allow=[made["id"]]))["flags"]]
 
-    def line_a_user_who_fails(self) -> Any:
+    def line_failed_user_verification(self) -> Any:
         self.add_authenticator()
         made = self.create()
         self.post(f"{self.key}/uv", {"isUserVerified": False})
@@ -328,7 +328,7 @@ class ObservedSession:
             self.list_credentials()[0]["backupState"],
         ]
 
-    def line_a_user_who_does_nothing(self) -> Any:
+    def line_user_without_reaction(self) -> Any:
         self.add_authenticator(isUserConsenting=False)
         return self.create(timeout=500).get("error")
 

@@ -1,5 +1,5 @@
 // A session of the key. Each input is passed to the verified core, and recorded with the packets that the core sends
-// and with what the core needs.
+// and with the reply for which the core then waits, if any: user presence, a key pair or a signature.
 import { toHex } from "./bytes.js";
 import { instantiateCore } from "./core_module.js";
 import { playLine, WasmKey } from "./wasm_key.js";

@@ -395,7 +395,7 @@
 
     const assertTrue = (isSo) => {
         if (!isSo) {
-            throw new Error("an assertion in the rules failed");
+            throw new Error("internal error: an assert statement of the rules failed");
         }
     };
 

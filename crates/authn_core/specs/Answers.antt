@@ -288,8 +288,8 @@ request_answer start past now cid (Ok GetNextAssertion) =
     (assertion_for start past GetNextAssertion)
     else status_response 0x30  -- NOT_ALLOWED
 
--- The answer to a reply for the pending request. `took` are its earlier replies, newest first. A reply that isn't
--- needed is ignored.
+-- The answer to the caller's reply (presence, key, signature). `took` are the pending request's earlier replies, newest
+-- first. An unneeded reply is ignored.
 abbrev pub reply_answer : Start → List Row → Option AssertState → ParsedRequest → (took : List Event) → (reply : Event) → Answer
 reply_answer start rows a Reset [] (PresenceIs reply) = consent_answer reply
 reply_answer start rows a Selection [] (PresenceIs reply) = consent_answer reply
@@ -359,7 +359,7 @@ abbrev pub requested_assertion : Start → Option PendingRequest → Option Asse
 requested_assertion start None = None
 requested_assertion start (Some u) = assertion_for start u.before u.asked
 
--- Whether the request is a reset, and the caller's reply is the user's consent to it (CTAP 2.1, section 6.6).
+-- Whether the user consents to a reset (CTAP 2.1, section 6.6).
 abbrev pub is_reset_granted : ParsedRequest → (reply : Event) → Bool
 is_reset_granted Reset (PresenceIs Granted) = true
 is_reset_granted asked reply = false

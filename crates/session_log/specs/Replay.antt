@@ -118,8 +118,8 @@ machine = replay_semantics session_semantics
 abbrev pub history : Start → LineSemantics (List Timed)
 history start = replay_semantics (history_semantics start)
 
--- Like `history_semantics`, with packets whose definition uses only the start and the inputs, not an authenticator's
--- state.
+-- Like `history_semantics`, but the packets are defined by the start and by the exchanges so far (each event and the
+-- authenticator's answer to it), without an authenticator's state.
 abbrev pub exchange_semantics : Start → InputSemantics (List Timed)
 exchange_semantics start = record {
   turned = λ h x. x ∷ h;
@@ -127,7 +127,7 @@ exchange_semantics start = record {
   counts = λ h. meters_of start (received start h);
 }
 
--- Like `history`, with packets whose definition uses only the start and the inputs.
+-- Like `history`, with the packets of `exchange_semantics`.
 abbrev pub replay_exchanges : Start → LineSemantics (List Timed)
 replay_exchanges start = replay_semantics (exchange_semantics start)
 

@@ -8,7 +8,7 @@ use std::fmt;
 pub enum Error {
     /// An error of the C library's key functions: the code (`enum hidlog_key_error` in `hidlog.h`) and its description.
     Core(i32, &'static str),
-    /// An argument is invalid: what it must be.
+    /// An argument is invalid. The text says what it must be.
     InvalidArgument(&'static str),
     /// The CTAP status code with which the key rejected a request.
     Status(u8),
