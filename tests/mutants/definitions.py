@@ -1,17 +1,21 @@
 #!/usr/bin/env python3
-"""Plants slips in the definitions of the authenticator's turns: a law that doesn't look at them has to refuse each.
+"""Checks that the prover refuses a law if a definition is wrong: applies mutants of definitions, one at a time.
 
-    tests/mutants/definitions.py [NAME ..]    tries those in tests/mutants/definitions, or these
+    tests/mutants/definitions.py [NAME ..]    tries these mutants in tests/mutants/definitions [default: all]
 
-The code follows the definitions of the turns, so that a slip in a definition that the code shares is seen by no contract
-of the code. The law names each answer from what happened before it. It is proved here, in a copy, with a slip in place,
-and none of the code: the prover has to refuse it. Each crate's `out/` must be there (run `rt check` in it first).
+A contract says that the code does what a definition says. So a mistake that is in both the code and the definition
+violates no contract. It violates a law, which says that two separate definitions agree: in authn_core, what the
+authenticator answers in its current state, and what it must answer after the events so far. For each mutant, this
+script changes a definition in a copy of the crate and proves the law there, without the code. The prover must refuse
+the law. Run `rt check` in each crate first, since its results in `out/` are used.
 
-A line is printed for each slip, and at the end 'N passed, M failed'. The status is 0 only if all passed.
+Prints a line for each mutant, and as the last line 'N passed, N failed'. Exits with 0 if at least one passed and none
+failed.
 """
 
 from __future__ import annotations
 
+import argparse
 import re
 import shutil
 import subprocess
@@ -19,70 +23,89 @@ import sys
 import tempfile
 from pathlib import Path
 
-from catalog import CRATES, PARTS, TOP, Crate, Mutant, below, mutants_of
+from catalog import CRATES, SOURCE_FOLDERS, TOP, Crate, Mutant, list_libraries, list_mutants
 
+# The law that is proved for the mutants of each crate.
 LAWS = {
     "authn_core": "authn_core::laws::answers_follow_history",
     "hid_assemble": "hid_assemble::laws::noise_is_turned_away",
 }
-PLACE = re.compile(r"\./(\S+?):\d+:\d+: error: (.*)")
+ERROR_LINE = re.compile(r"\./(\S+?):\d+:\d+: error: (.*)")
 
 
-def copy_of(crate: Crate, room: Path) -> Path:
-    """Copies the crates that are proved, with their work, and the sources of the others. Returns the crate's folder."""
-    shutil.copy(TOP / "crates.txt", room)
-    kept = {crate.name, *below(crate)}
+def copy_crates(crate: Crate, work_dir: Path) -> Path:
+    """Copies the sources of all crates, and the results in `out/` of a crate and of the libraries that it uses. Returns
+    the folder of the crate's copy."""
+    shutil.copy(TOP / "crates.txt", work_dir)
+    needed = {crate.name, *list_libraries(crate)}
     for name in CRATES:
-        parts = [*PARTS, "out"] if name in kept else [*PARTS]
-        for part in parts:
-            if (CRATES[name].folder / part).is_dir():
-                shutil.copytree(CRATES[name].folder / part, room / "crates" / name / part)
-    return room / "crates" / crate.name
+        for folder in [*SOURCE_FOLDERS, "out"] if name in needed else SOURCE_FOLDERS:
+            if (CRATES[name].folder / folder).is_dir():
+                shutil.copytree(CRATES[name].folder / folder, work_dir / "crates" / name / folder)
+    return work_dir / "crates" / crate.name
 
 
-def proves(folder: Path, law: str) -> tuple[bool, list[str]]:
-    """Returns whether the law is proved, and the prover's errors with their files."""
-    done = subprocess.run(["rt", "check", "--only", law], cwd=folder, capture_output=True, text=True, check=False)
-    said = done.stdout + done.stderr
-    return f"fn {law}: proved" in said, [f"{file}: {text}" for file, text in PLACE.findall(said)]
+def prove_law(folder: Path, law: str) -> tuple[bool, list[str]]:
+    """Returns whether the prover proves a law of the crate in a folder, and its error messages, each with the file's
+    path before it."""
+    command = ["rt", "check", "--only", law]
+    result = subprocess.run(command, cwd=folder, capture_output=True, text=True, check=False)
+    output = result.stdout + result.stderr
+    return f"fn {law}: proved" in output, [f"{path}: {message}" for path, message in ERROR_LINE.findall(output)]
 
 
-def refusal(mutant: Mutant, folder: Path) -> str | None:
-    """Returns why a slip isn't refused by the law's proof, or None if it is."""
-    if misfit := mutant.misfit():
-        return misfit
-    texts = {path: (folder / path).read_text(encoding="utf-8") for path, _, _ in mutant.pairs}
+def try_mutant(mutant: Mutant, folder: Path) -> str | None:
+    """Applies a mutant to the copy of its crate, proves the law, and restores the copy. Returns None if the prover
+    refuses the law because of the mutant, and otherwise what happened instead."""
+    if mismatch := mutant.find_mismatch():
+        return mismatch
+    paths = {replacement.path for replacement in mutant.replacements}
+    originals = {path: (folder / path).read_text(encoding="utf-8") for path in paths}
     try:
-        for path, old, new in mutant.pairs:
-            text = (folder / path).read_text(encoding="utf-8")
-            (folder / path).write_text(text.replace(old, new), encoding="utf-8")
-        proved, errors = proves(folder, LAWS[mutant.crate])
+        mutant.apply(folder)
+        is_proved, errors = prove_law(folder, LAWS[mutant.crate])
     finally:
-        for path, text in texts.items():
+        for path, text in originals.items():
             (folder / path).write_text(text, encoding="utf-8")
-    if proved:
-        return "the law is proved with it"
-    in_specs = [error for error in errors if error.startswith("specs/")]
-    if in_specs or not errors:
-        return "it isn't a definition: " + (in_specs[0] if in_specs else "the prover names no place")
-    return None
+    if is_proved:
+        return "NOT REFUSED: the prover still proves the law"
+    # An error in specs/ shows that the changed definition is itself invalid, so the law was not tried.
+    in_definitions = [error for error in errors if error.startswith("specs/")]
+    if in_definitions:
+        return f"BAD MUTANT: the changed definition is invalid: {in_definitions[0]}"
+    return None if errors else "BAD MUTANT: the prover's output has no error with a location"
+
+
+def try_mutants(crate: str, mutants: list[Mutant]) -> list[bool] | None:
+    """Tries mutants of a crate, and prints a line for each. Returns for each whether it passed, or None if the law is
+    not proved without a mutant."""
+    with tempfile.TemporaryDirectory() as work_dir:
+        folder = copy_crates(CRATES[crate], Path(work_dir))
+        if not prove_law(folder, LAWS[crate])[0]:
+            print(f"{crate}: {LAWS[crate]} is not proved without a mutant")
+            return None
+        results = []
+        for mutant in mutants:
+            failure = try_mutant(mutant, folder)
+            line = f"FAILED {mutant.full_name}: {failure}" if failure else f"ok     {mutant.full_name}"
+            print(line, flush=True)
+            results.append(failure is None)
+        return results
 
 
 def main() -> int:
-    names = sys.argv[1:]
+    """Tries the mutants that the command line names, or all. Returns the exit status."""
+    parser = argparse.ArgumentParser(description=__doc__, formatter_class=argparse.RawDescriptionHelpFormatter)
+    parser.add_argument("names", nargs="*", metavar="NAME", help="a mutant to try [default: all]")
+    names = parser.parse_args().names
     passed = failed = 0
-    for crate, law in LAWS.items():
-        with tempfile.TemporaryDirectory() as room:
-            folder = copy_of(CRATES[crate], Path(room))
-            if not proves(folder, law)[0]:
-                print(f"{crate}: the law isn't proved without a slip")
-                return 1
-            for mutant in mutants_of(crate, ("definitions",)):
-                if names and mutant.title not in names:
-                    continue
-                why = refusal(mutant, folder)
-                print(f"{'FAILED' if why else 'ok    '} {mutant.name}{': ' + why if why else ''}", flush=True)
-                passed, failed = passed + (why is None), failed + (why is not None)
+    for crate in LAWS:
+        mutants = [mutant for mutant in list_mutants(crate, ["definitions"]) if not names or mutant.name in names]
+        results = try_mutants(crate, mutants)
+        if results is None:
+            return 1
+        passed += results.count(True)
+        failed += results.count(False)
     print(f"{passed} passed, {failed} failed")
     return 0 if passed and not failed else 1
 
