@@ -36,9 +36,7 @@ LANGUAGES = {
     ".h": "C",
     ".sh": "shell",
 }
-SKIPPED_PATHS = re.compile(
-    r"^crates/\w+/proofs/|^bindings/web/dist/|^release/|^examples/failing/|/data/|^tests/(?:edits|mutants)/"
-)
+SKIPPED_PATHS = re.compile(r"^crates/\w+/proofs/|^bindings/web/dist/|^release/|^examples/failing/|/data/")
 # The folders whose definitions are drawn: those on which the theorem depends.
 SPEC_PATHS = re.compile(r"^crates/\w+/specs/")
 GENERATED_MARK = re.compile(r"[Gg]enerated by|DO NOT EDIT|[Mm]ade by (?!hand)")

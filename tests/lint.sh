@@ -1,7 +1,7 @@
 #!/usr/bin/env bash
 # Checks the names of variables, classes and constants against docs/change/STYLE.md, and runs shellcheck, black,
-# mypy --strict and tsc --strict. The variable `untyped` lists Python files whose types are not checked yet, and
-# `renaming` lists folders in whose files these names are not checked yet. Entries may be removed, but not added.
+# mypy --strict and tsc --strict. The variable `untyped` lists Python files whose types are not checked yet. Files may
+# be removed from it, but not added.
 set -euo pipefail
 cd "$(dirname "${BASH_SOURCE[0]}")/.."
 # Require these versions: other versions of black format differently, and other versions of mypy report other errors.
@@ -11,7 +11,6 @@ for tool in "black 23" "mypy 1.0"; do
 done
 # Find variables called `it`, exception classes whose name does not end in Error (except those that are not errors), and
 # constants whose name has the word MOST.
-renaming='^tests/mutants/'
 sources=('*.py' '*.js' '*.mjs' '*.go' '*.rs' '*.c' '*.h' ':!bindings/web/dist' ':!release')
 pronoun='\bfor \(?(const )?it (in|of)\b|\blambda it\b|^\s*(const |let )?it :?= |\(it[,)]( =>|\.)|, it\) =>|func \(it\b'
 not_errors='Mismatch|CaseSkipped|PresenceScriptExhausted'
@@ -21,7 +20,6 @@ named=$(
     git grep -nPI 'class (?!\w*Error\b)\w+ extends \w*Error\b' -- '*.js' '*.mjs' ':!bindings/web/dist' || true
     git grep -nPI '\b(_?[A-Z]+_)+MOST\b|\bMOST_[A-Z]' -- "${sources[@]}" || true
 )
-named=$(grep -Ev "$renaming" <<<"$named" || true)
 [ -z "$named" ] || { echo "FAILED: names that docs/change/STYLE.md excludes:"; echo "$named"; exit 1; }
 mapfile -t shell < <(git ls-files -z -co --exclude-standard |
     xargs -0 awk 'FNR == 1 { if ($0 ~ /^#!.*[\/ ](ba)?sh$/) print FILENAME; nextfile }')
