@@ -61,7 +61,6 @@ SOURCE_FILE = re.compile(
 # Files that aren't listed: generated files, test data, and proofs, which are named after what they prove.
 SKIPPED_PATHS = re.compile(
     r"^crates/\w+/proofs/|^bindings/web/dist/|^release/(?:hidlog|.*\.h$|aarch64/)|^examples/failing/"
-    r"|^tests/mutants/.*\.rt"
 )
 # Files that need no comment: lists of modules, and tests.
 UNLISTED_FILES = re.compile(r"(?:^|/)(?:Lib\.antt|hidlog_test\.go|cases_test\.go|cases/__init__\.py)$")

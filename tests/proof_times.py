@@ -1,5 +1,5 @@
 #!/usr/bin/env python3
-"""Runs the gate and prints each crate's processor time in seconds, for its proof, tests, edits and builds.
+"""Runs the gate and prints each crate's processor time in seconds, for its proof, tests, mutants and builds.
 
     tests/proof_times.py                  run `tests/run --gate`, and print the table at the end
     tests/proof_times.py -- COMMAND ..    run another command that calls the prover, such as `rt check`
@@ -20,7 +20,7 @@ from dataclasses import dataclass, field
 from pathlib import Path
 
 TICKS_PER_SECOND = os.sysconf("SC_CLK_TCK")
-RUN_KINDS = ("proof", "tests", "edits", "builds")
+RUN_KINDS = ("proof", "tests", "mutants", "builds")
 
 
 @dataclass(frozen=True)
@@ -97,8 +97,8 @@ def classify_process(process: Process) -> ProverRun | None:
     if "--crate-name" not in words or not words[0].endswith("/rattle"):
         return None
     crate = words[words.index("--crate-name") + 1]
-    if "/edits-" in folder:
-        kind = "edits"
+    if "/mutants-" in folder:
+        kind = "mutants"
     elif "--test" in words:
         kind = "tests"
     elif "--crate-checked" in words:
@@ -116,11 +116,11 @@ def format_table(checks: list[ProverRun]) -> str:
         row[check.kind] += check.seconds
     rows = sorted(costs.items(), key=lambda row: -sum(row[1].values()))
     sums = {kind: sum(row[kind] for row in costs.values()) for kind in RUN_KINDS}
-    lines = ["| Crate | " + " | ".join(kind.capitalize() for kind in RUN_KINDS) + " | Rounds of edits | All |"]
+    lines = ["| Crate | " + " | ".join(kind.capitalize() for kind in RUN_KINDS) + " | Checks of mutants | All |"]
     lines.append("|---" * (len(RUN_KINDS) + 3) + "|")
     for crate, row in [*rows, ("all", sums)]:
         figures = " | ".join(f"{row[kind]:.0f}" if row[kind] else "" for kind in RUN_KINDS)
-        rounds = sum(check.kind == "edits" and crate in (check.crate, "all") for check in checks)
+        rounds = sum(check.kind == "mutants" and crate in (check.crate, "all") for check in checks)
         lines.append(f"| {crate} | {figures} | {rounds or ''} | {sum(row.values()):.0f} |")
     return "\n".join(lines)
 
