@@ -1,6 +1,6 @@
 // Converts USB captures to logs: pcap and pcapng of usbmon (Linux) and USBPcap (Windows). The key is found by its
 // packets. The comments in the logs are the same as those of `hidlog import` of the Python package, which reads more
-// formats and infers replies. Sets `globalThis.hidlogCaptures`.
+// formats, and infers the caller's replies, which are not on the bus. Sets `globalThis.hidlogCaptures`.
 "use strict";
 
 (() => {

@@ -127,7 +127,7 @@ def respond_to_stray_packet(device: FaultyDevice, at: int, packet: bytes) -> Opt
 
 
 def accept_packets_of_any_channel(device: FaultyDevice, at: int, packet: bytes) -> Optional[bytes]:
-    """Processes a continuation packet of any channel for the open message."""
+    """Processes a continuation packet of any channel for the incomplete message."""
     channel = int.from_bytes(packet[:4], "big")
     if packet[4] & 0x80:
         if set(device.host.open) == {channel}:

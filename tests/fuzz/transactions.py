@@ -5,8 +5,8 @@
 
 The transaction of each packet comes from a model of the transport (CTAP 2.1, section 11.2), which processes the inputs
 and determines for which message the key sends each packet. The model is independent of the program's tracking of
-transactions, and stops at a packet that it does not expect. The needed replies come from `live`. `show --json`,
-`--summary` and `--explain` must agree.
+transactions, and stops at a packet that it does not expect. Which reply the key needs (user presence,
+a key pair or a signature) is read from the output of `live`. `show --json`, `--summary` and `--explain` must agree.
 """
 
 from __future__ import annotations

@@ -111,8 +111,8 @@ run_ceremony_tests() {
         test_browser.py test_browser_cases.py test_threads.py test_invalid_arguments.py test_readers.py)
 }
 
-# Runs the ceremony tests, and unless DIR is empty, the comparison with python-fido2's client and the examples, with the
-# python-fido2 in DIR: test_with_fido2_version TITLE DIR
+# Runs the ceremony tests. If DIR is not "", also runs the examples and the comparison with python-fido2's client, with
+# the python-fido2 in DIR: test_with_fido2_version TITLE DIR
 test_with_fido2_version() {
     local version=$1 path=$2 python=$work/system/bin/python
     export PYTHONPATH=$path

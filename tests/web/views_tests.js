@@ -8,7 +8,7 @@ import {
 const getTree = () => getPage().document.querySelector("[role=tree].fields");
 const listItems = () => [...getTree().querySelectorAll("[role=treeitem]")];
 const getSelectedItem = () => getTree().querySelector("[aria-selected=true]");
-const listMarkedBytes = () => [...getElement("hex").querySelectorAll(".byte.marked")].map((cell) => cell.textContent).join("");
+const readMarkedBytes = () => [...getElement("hex").querySelectorAll(".byte.marked")].map((cell) => cell.textContent).join("");
 
 const pressKeyOn = (element, key) =>
     element.dispatchEvent(new (getPage().KeyboardEvent)("keydown", { key, bubbles: true, cancelable: true }));
@@ -37,20 +37,20 @@ const openRegistration = async () => {
 const testFieldBytes = async () => {
     await openRegistration();
     findItem("2 rp:").click();
-    expect(listMarkedBytes() === "02a16269646b6578616d706c652e636f6d", listMarkedBytes());
+    expect(readMarkedBytes() === "02a16269646b6578616d706c652e636f6d", readMarkedBytes());
     expect(getElement("hex-status").textContent === "17 bytes: line 4, bytes 44 to 60", getElement("hex-status").textContent);
     // The user entity begins in the first packet, and ends in the second packet.
     findItem("3 user:").click();
-    expect(listMarkedBytes() === "03a16269644101", listMarkedBytes());
+    expect(readMarkedBytes() === "03a16269644101", readMarkedBytes());
     expect(getElement("hex-status").textContent === "7 bytes: line 4, bytes 61 to 63; line 5, bytes 5 to 8",
         getElement("hex-status").textContent);
     const cells = [...getElement("hex").querySelectorAll(".byte")];
     expect(cells.length === 128, `${cells.length} bytes`);
     cells[9 + 10].click();
     expect(getSelectedItem().textContent.trim().startsWith("1 clientDataHash"), getSelectedItem().textContent);
-    expect(listMarkedBytes() === `015820${"11".repeat(32)}`, listMarkedBytes());
+    expect(readMarkedBytes() === `015820${"11".repeat(32)}`, readMarkedBytes());
     cells[0].click();
-    expect(getSelectedItem().textContent.trim() === "channel 00000001" && listMarkedBytes() === "00000001", getSelectedItem().textContent);
+    expect(getSelectedItem().textContent.trim() === "channel 00000001" && readMarkedBytes() === "00000001", getSelectedItem().textContent);
 };
 
 /** The fields are a tree after ARIA's tree view pattern: roles, levels, positions and arrow keys. */

@@ -142,8 +142,8 @@ const LOG_TEXTS = {
     ],
 };
 
-// For the first transaction: all its lines, the lines with its packets, the number of bytes received, and the lines of
-// its response.
+// For the first transaction: all its lines, the lines of the host's message, the number of bytes of this message that
+// were received, and the lines of the response.
 const PARTIAL_LOGS = {
     "a PING's answer of two packets": { all: [1, 2, 3, 4], own: [1, 2], received: 60, answer: [3, 4] },
     "a late packet, and one out of sequence": { all: [1, 2, 3, 5], own: [1, 2], received: 116 },

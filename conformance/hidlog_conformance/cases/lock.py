@@ -12,7 +12,8 @@ if TYPE_CHECKING:
 
 # Seconds of a lock: short ones, since the next case has to wait for their end if the device fails; and the maximum.
 SHORT, LONGER, MAX_LOCK = 1, 2, 10
-OTHER = 2
+# The channel ID of the second host.
+OTHER_CHANNEL = 2
 
 
 class LockCase(Case):
@@ -37,7 +38,7 @@ class LockCase(Case):
 
     def expect_other_refused(self) -> Self:
         """Sends a PING of the other host, which gets the error 06."""
-        self.send(OTHER, hid.PING, b"let me in").expect(f"error 06 on {OTHER:08x}")
+        self.send(OTHER_CHANNEL, hid.PING, b"let me in").expect(f"error 06 on {OTHER_CHANNEL:08x}")
         return self
 
 
@@ -52,35 +53,46 @@ def cases() -> List[Case]:
     found.append(case.lock_device().expect_other_refused().expect_alive().expect_other_refused().release_lock())
     case = LockCase("excludes_requests", "During a lock requests of other channels are refused.")
     found.append(
-        case.lock_device().cbor(INFO, OTHER).expect(f"error 06 on {OTHER:08x}").cbor(INFO).expect("info").release_lock()
+        case.lock_device()
+        .cbor(INFO, OTHER_CHANNEL)
+        .expect(f"error 06 on {OTHER_CHANNEL:08x}")
+        .cbor(INFO)
+        .expect("info")
+        .release_lock()
     )
     case = LockCase("excludes_locks", "During a lock another channel cannot lock.")
-    case.lock_device().lock(SHORT, OTHER).expect(f"error 06 on {OTHER:08x}")
+    case.lock_device().lock(SHORT, OTHER_CHANNEL).expect(f"error 06 on {OTHER_CHANNEL:08x}")
     found.append(case.expect_alive().expect_other_refused().release_lock())
     case = LockCase("excludes_releases", "Another channel cannot release a lock.")
     found.append(
-        case.lock_device().lock(0, OTHER).expect(f"error 06 on {OTHER:08x}").expect_other_refused().release_lock()
+        case.lock_device()
+        .lock(0, OTHER_CHANNEL)
+        .expect(f"error 06 on {OTHER_CHANNEL:08x}")
+        .expect_other_refused()
+        .release_lock()
     )
     case = LockCase("released", "A LOCK of zero seconds releases the device.")
-    found.append(case.lock_device().release_lock().expect_alive(OTHER).expect_alive())
+    found.append(case.lock_device().release_lock().expect_alive(OTHER_CHANNEL).expect_alive())
     case = LockCase("released_unlocked", "A LOCK of zero seconds without a lock has no effect.")
-    found.append(case.release_lock().expect_alive(OTHER).expect_alive())
+    found.append(case.release_lock().expect_alive(OTHER_CHANNEL).expect_alive())
     case = LockCase("runs_out", "A lock ends after its time.")
-    found.append(case.lock_device().expect_other_refused().tick(1500).expect_alive(OTHER).expect_alive())
+    found.append(case.lock_device().expect_other_refused().tick(1500).expect_alive(OTHER_CHANNEL).expect_alive())
     case = LockCase("passes_on", "After a lock another channel can lock.")
-    case.lock_device().release_lock().lock(SHORT, OTHER).expect(f"message 04 none on {OTHER:08x}")
-    case.send(1, hid.PING, b"and me").expect("error 06").expect_alive(OTHER)
-    found.append(case.lock(0, OTHER).expect(f"message 04 none on {OTHER:08x}").expect_alive())
+    case.lock_device().release_lock().lock(SHORT, OTHER_CHANNEL).expect(f"message 04 none on {OTHER_CHANNEL:08x}")
+    case.send(1, hid.PING, b"and me").expect("error 06").expect_alive(OTHER_CHANNEL)
+    found.append(case.lock(0, OTHER_CHANNEL).expect(f"message 04 none on {OTHER_CHANNEL:08x}").expect_alive())
     case = LockCase("lasts", "A lock lasts for its time.")
     found.append(case.lock_device(LONGER).tick(1400).expect_other_refused().release_lock())
     case = LockCase("renewed", "A further LOCK begins its time anew.")
     case.lock_device(LONGER).tick(1400).lock_device(LONGER).tick(1400)
-    found.append(case.expect_other_refused().release_lock().expect_alive(OTHER))
+    found.append(case.expect_other_refused().release_lock().expect_alive(OTHER_CHANNEL))
     case = LockCase("shortened", "A further LOCK may shorten a lock.")
-    found.append(case.lock_device(MAX_LOCK).lock_device().tick(1500).expect_alive(OTHER).expect_alive())
+    found.append(case.lock_device(MAX_LOCK).lock_device().tick(1500).expect_alive(OTHER_CHANNEL).expect_alive())
     for length in (0, 2):
         case = LockCase(f"length_{length}", "A LOCK with an invalid length is refused.")
-        found.append(case.send(1, hid.LOCK, bytes(length)).expect("error 03").expect_alive(OTHER).expect_alive())
+        found.append(
+            case.send(1, hid.LOCK, bytes(length)).expect("error 03").expect_alive(OTHER_CHANNEL).expect_alive()
+        )
     case = LockCase("of_eleven_seconds", "A lock is for at most ten seconds.", "should")
-    found.append(case.lock(MAX_LOCK + 1).expect("error 02").expect_alive(OTHER))
+    found.append(case.lock(MAX_LOCK + 1).expect("error 02").expect_alive(OTHER_CHANNEL))
     return found

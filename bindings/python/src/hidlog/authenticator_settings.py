@@ -168,6 +168,6 @@ class AuthenticatorSettings:
 
     @property
     def authenticator_options(self) -> AuthenticatorOptions:
-        """The authenticator's abilities, for the library's client."""
+        """The authenticator's abilities, for the C library's WebAuthn client."""
         extensions = self.supports("credProtect"), self.supports("largeBlob")
         return AuthenticatorOptions(self._verification, self._attachment, self._has_resident_key, *extensions)

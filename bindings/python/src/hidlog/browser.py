@@ -1,8 +1,8 @@
 """A simulated browser at an origin. A call gets a service's options, and returns a credential, both as the JSON of
 WebAuthn Level 3.
 
-The library's client checks options, origins and RP IDs as Chromium does (webauthn_client.py). Errors are those of the
-DOM (webauthn_errors.py).
+The C library's WebAuthn client (webauthn_client.py) checks options, origins and RP IDs as Chromium does. Errors are
+those of the DOM (webauthn_errors.py).
 """
 
 from __future__ import annotations
@@ -400,7 +400,7 @@ def _read_number_of_credentials(response: bytes) -> int:
     try:
         number = cbor.decode(response[1:]).get(5, 1)
     except cbor.CborError:
-        return 1  # the library's client rejects the response
+        return 1  # the C library's WebAuthn client rejects the response
     return number if isinstance(number, int) else 1
 
 

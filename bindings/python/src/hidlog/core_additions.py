@@ -52,7 +52,7 @@ def select_algorithm(parameters: Any, algorithms: tuple[int, ...]) -> int:
 
 
 def adapt_options(ceremony: str, options: Json, settings: AuthenticatorSettings) -> Json:
-    """Returns options for the library's client and the core, which support no algorithm except ES256."""
+    """Returns options for the C library's WebAuthn client and the core, which support no algorithm except ES256."""
     parameters = options.get("pubKeyCredParams")
     if ceremony == "create" and select_algorithm(parameters, settings.algorithms) != ES256:
         return {**options, "pubKeyCredParams": [{"type": _PUBLIC_KEY, "alg": ES256}, *(parameters or ())]}
@@ -165,7 +165,7 @@ class CoreAdditions:
         return sign_with_other_key(make_other_key(get_algorithm(other), random) if is_bad else other, signed)
 
     def adapt(self, made: Json, core_id: bytes, public: bytes) -> None:
-        """Completes a credential's JSON from the library's client: the public key and the extension results."""
+        """Completes a credential's JSON from the C library's client: the public key and the extension results."""
         other = self._metadata.others.get(core_id)
         kept = self._metadata.extensions.get(core_id, {})
         if self._ceremony == "create":

@@ -1,7 +1,8 @@
 """Extensions that a key supports outside the core (WebAuthn Level 3, section 10; CTAP 2.1, section 12): prf, largeBlob,
-credProtect, credBlob and minPinLength, with the results of Chromium's virtual authenticator.
+credProtect, credBlob and minPinLength. The results are those of Chromium's virtual authenticator.
 
-bindings/web/key/key_extensions.js is the same for pages. The library's client has checked the inputs before.
+bindings/web/key/key_extensions.js is the same for pages. The C library's WebAuthn client (webauthn_client.py) has
+checked the inputs before.
 """
 
 from __future__ import annotations
@@ -109,7 +110,7 @@ def _evaluate_prf(public: bytes, inputs: Json) -> Json:
 
 
 def make_registration_results(kept: Json, inputs: Json, public: bytes) -> Json:
-    """Returns the client extension results of a registration, besides those of the library's client."""
+    """Returns the client extension results of a registration, besides those of the C library's WebAuthn client."""
     prf = inputs.get("prf")
     results: Json = {}
     if "prf" in kept and prf is not None:

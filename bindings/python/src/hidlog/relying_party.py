@@ -48,7 +48,7 @@ def get_host(origin: str) -> str:
 
 @lru_cache(maxsize=1024)
 def is_valid_rp_id(rp_id: str, origin: str) -> bool:
-    """Returns whether pages of an origin may use an RP ID, according to the library's client."""
+    """Returns whether pages of an origin may use an RP ID, according to the C library's WebAuthn client."""
     try:
         ClientCall("get", {"challenge": "", "rpId": rp_id}, "optional", origin, AuthenticatorOptions()).request()
     except WebAuthnError:

@@ -1,4 +1,4 @@
-//! Private keys on P-256 that sign, SHA-256 and random bytes, from the system's OpenSSL 3.
+//! Signing keys on P-256, SHA-256, and random bytes, from the system's OpenSSL 3.
 use crate::Error;
 use std::os::raw::{c_char, c_int, c_uchar, c_void};
 use std::ptr::{null, null_mut};
