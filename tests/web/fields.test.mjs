@@ -10,7 +10,8 @@ import { core, resolvePath, readSession } from "./session_in_node.mjs";
 for (const name of ["show_text.js", "cbor_spans.js", "fields.js"]) {
     vm.runInThisContext(readFileSync(resolvePath(`bindings/web/${name}`), "utf8"));
 }
-const { makeAllFields, PACKET_BYTES } = globalThis.hidlogFields;
+const { makeAllFields } = globalThis.hidlogFields;
+const { PACKET_SIZE } = globalThis.hidlogBytes;
 const LOG_FOLDERS = ["examples/", "examples/failing/", "crates/hidlog_cli/data/capacity_64/", "tests/captures/data/"];
 
 const openSession = (name) => {
@@ -35,8 +36,8 @@ const findFields = (name, line) => {
 
 /** The bytes of ranges in hexadecimal. */
 const readBytes = (packets, ranges) => ranges.map(({ from, to }) => {
-    const { bytes } = packets[Math.floor(from / PACKET_BYTES)];
-    const start = from % PACKET_BYTES;
+    const { bytes } = packets[Math.floor(from / PACKET_SIZE)];
+    const start = from % PACKET_SIZE;
     return Buffer.from(bytes.subarray(start, start + to - from)).toString("hex");
 }).join("");
 
