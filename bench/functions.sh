@@ -1,11 +1,10 @@
 #!/usr/bin/env bash
 # Lists the functions of the library crates that a session calls, to see how many functions a reader has to follow.
 # Builds the program crates/doc_examples without inlining, and runs it under callgrind, which records only the calls in
-# Session::step and OutboxIterator::next; most are for a PING and a registration (registration.rt). Leaves out functions
-# that `derive` generates, closures, functions for proofs (in modules named `laws`), and those of session_log, which
-# calls the session. Then prints the number of functions, and the parameters that functions only pass on to other
-# functions (pass_through_args.py). Needs rt and valgrind. doc_examples is proved first, which takes two minutes, or half
-# an hour if the libraries have not been proved yet.
+# Session::step and OutboxIterator::next: those for a PING and a registration. Leaves out functions that `derive`
+# generates, closures, and functions for proofs (in modules named `laws`). Then prints the number of functions, and the
+# parameters that functions only pass on to other functions (pass_through_args.py). Needs rt and valgrind. doc_examples is
+# proved first, which takes a minute, or half an hour if the libraries have not been proved yet.
 #
 #     bench/functions.sh [DIR]        DIR is the directory for the intermediate files [default: a new one]
 set -euo pipefail
@@ -20,7 +19,7 @@ valgrind --tool=callgrind --callgrind-out-file="$work/profile" --collect-atstart
 libraries=$(cd "$top/crates" && printf '%s|' */src/lib.rt | sed 's,/src/lib.rt,,g; s,|$,,')
 callgrind_annotate --threshold=100 --inclusive=yes "$work/profile" |
     sed -n 's/.*???:\([^[]*\) \[.*/\1/p' | sed "s/::<.*//; s/'2\$//; s/ *\$//" | sort -u |
-    grep -E "^($libraries)::" | grep -vE '(Destruct|Debug|Default|PartialEq)[^:]*::|::(fn|laws)::|^session_log::' |
+    grep -E "^($libraries)::" | grep -vE '(Destruct|Debug|Default|PartialEq)[^:]*::|::(fn|laws)::' |
     tee "$work/functions"
 wc -l <"$work/functions"
 "$top/bench/pass_through_args.py" "$work/functions"

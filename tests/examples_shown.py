@@ -1,13 +1,13 @@
 #!/usr/bin/env python3
-"""Compares the example on each library's page with the code in crates/doc_examples from which it is taken.
+"""Compares the example on each library's page with the test in crates/doc_examples from which it is taken.
 
     tests/examples_shown.py            prints the pages that differ; exit status 1 if there are any
-    tests/examples_shown.py --write    updates the examples from the code
+    tests/examples_shown.py --write    updates the examples from the tests
 
-A page is the comment at the top of a `lib.rt`. It names the file of its example: `An example, which the gate runs
-(FILE)`. The first code block of the page contains the lines of this file after the imports, in order, without the head
-and the closing brace of a function, and without a final `Ok(())`. White space may differ, because `rt fmt` formats the
-file but not the page. Also, main.rt must call each function of an example.
+A page is the comment at the top of a `lib.rt`. It refers to its test: `An example, which the gate runs (FILE)`. The
+first code block of the page contains the lines of this file after the imports, in order, without the lines that make
+them a test: `#[test]`, the function's head and closing brace, and a final `Ok(())`. White space may differ, because `rt
+fmt` formats the test but not the page.
 """
 
 from __future__ import annotations
@@ -20,14 +20,14 @@ from pathlib import Path
 TOP = Path(__file__).resolve().parent.parent
 EXAMPLE_LINK = re.compile(r"An example, which the gate runs \(`([^`]+)`\):")
 CODE_BLOCK = re.compile(r"(?<=//! ```text\n)(?://!.*\n)*?(?=//! ```\n)")
-# A function. Its body is between the opening brace and a line that consists of the closing brace.
-FUNCTION = re.compile(r"^pub fn [^\n]*\{\n(.*?)^\}\n", re.MULTILINE | re.DOTALL)
+# A test function. Its body is between the opening brace and a line that consists of the closing brace.
+TEST_FUNCTION = re.compile(r"#\[test\]\nfn [^\n]*\{\n(.*?)^\}\n", re.MULTILINE | re.DOTALL)
 
 
-def read_example(code: str) -> str:
-    """Returns the example in a file, as a page shows it."""
-    kept = [line for line in code.splitlines(keepends=True) if not line.startswith(("//!", "use "))]
-    text = FUNCTION.sub(lambda found: textwrap.dedent(found[1]).removesuffix("Ok(())\n"), "".join(kept))
+def read_example(test: str) -> str:
+    """Returns the example in a test file, as a page shows it."""
+    kept = [line for line in test.splitlines(keepends=True) if not line.startswith(("//!", "use "))]
+    text = TEST_FUNCTION.sub(lambda found: textwrap.dedent(found[1]).removesuffix("Ok(())\n"), "".join(kept))
     return re.sub(r"\n{3,}", "\n\n", text).strip("\n") + "\n"
 
 
@@ -39,17 +39,6 @@ def to_comment(text: str) -> str:
 def remove_layout(comment: str) -> str:
     """Returns a page's comment without white space."""
     return "".join(line.removeprefix("//!") for line in "".join(comment.split(" ")).split())
-
-
-def list_uncalled() -> list[str]:
-    """Returns the functions of the examples that main.rt does not call, each as MODULE::NAME."""
-    program = (TOP / "crates/doc_examples/src/main.rt").read_text(encoding="utf-8")
-    named = [
-        f"{path.stem}::{name}"
-        for path in sorted((TOP / "crates/doc_examples/src").glob("*.rt"))
-        for name in re.findall(r"^pub fn (\w+)", path.read_text(encoding="utf-8"), re.MULTILINE)
-    ]
-    return [name for name in named if f"    {name}(" not in program]
 
 
 def main(write: bool) -> int:
@@ -74,10 +63,7 @@ def main(write: bool) -> int:
         else:
             print(f"{page.relative_to(TOP)}: the example differs from {named[1]}")
     print(f"{len(pages)} pages, {differ} {'written' if write else 'that differ'}")
-    uncalled = list_uncalled()
-    for name in uncalled:
-        print(f"crates/doc_examples/src/main.rt: {name} is not called")
-    return 1 if uncalled or (differ and not write) else 0
+    return 1 if differ and not write else 0
 
 
 if __name__ == "__main__":

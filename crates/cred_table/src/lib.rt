@@ -10,7 +10,7 @@
 //!     discoverable: true,
 //!     ..Row::default()
 //! });
-//! let mut snapshot = Vec::new(alloc);
+//! let mut snapshot = Vec::new(rt.alloc());
 //! save(&table, &mut snapshot)?;
 //!
 //! let mut copy = Store::<4>::new();

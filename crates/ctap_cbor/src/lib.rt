@@ -31,8 +31,8 @@
 //! sink.flag(true);
 //! assert!(rt; buffer == [0x81, 0xf5]);
 //!
-//! let value = decode_value(alloc, MESSAGE)?;
-//! let mut copy = Vec::new(alloc);
+//! let value = decode_value(rt.alloc(), MESSAGE)?;
+//! let mut copy = Vec::new(rt.alloc());
 //! encode_value(&value, &mut copy)?;
 //! assert!(rt; copy.as_slice() == MESSAGE);
 //! ```

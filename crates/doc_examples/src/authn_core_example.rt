@@ -3,9 +3,9 @@
 use authn_core::{Config, Core, Presence, Turn};
 use cred_table::Store;
 use ctap_message::Answer;
-use std::process::Abort;
 
-pub fn handle_request(rt: &impl Abort) {
+#[test]
+fn handle_request(rt: HostRuntime) {
     let mut core = Core::<Store<4>, 4>::new(Config { aaguid: [0; 16] }, Store::new(), 0);
     // authenticatorSelection on channel 1 waits for the user's presence, and is then answered.
     let mut answer = Answer::new();

@@ -1,11 +1,10 @@
 //! The example in the documentation of `cred_table`.
 
 use cred_table::{Row, Store, Table, load, save};
-use std::alloc::Global;
-use std::process::Abort;
 use std::test::Fail;
 
-pub fn save_and_load(rt: &impl Abort, alloc: Global) -> Result<(), Fail> {
+#[test]
+fn save_and_load(rt: HostRuntime) -> Result<(), Fail> {
     let mut table = Store::<4>::new();
     table.put(Row {
         rp: [0xa3; 32],
@@ -13,7 +12,7 @@ pub fn save_and_load(rt: &impl Abort, alloc: Global) -> Result<(), Fail> {
         discoverable: true,
         ..Row::default()
     });
-    let mut snapshot = Vec::new(alloc);
+    let mut snapshot = Vec::new(rt.alloc());
     save(&table, &mut snapshot)?;
 
     let mut copy = Store::<4>::new();

@@ -1,9 +1,9 @@
 //! The example in the documentation of `ctap_message`.
 
 use ctap_message::{Answer, Request, Status, read_request, write_info};
-use std::process::Abort;
 
-pub fn parse_requests(rt: &impl Abort) {
+#[test]
+fn parse_requests(rt: HostRuntime) {
     let (request, steps) = read_request(b"\x04");
     let info = matches!(request, Ok(Request::Info));
     let mut answer = Answer::new();

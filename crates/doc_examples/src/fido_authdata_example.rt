@@ -1,9 +1,9 @@
 //! The example in the documentation of `fido_authdata`.
 
 use fido_authdata::{AuthData, to_sign};
-use std::process::Abort;
 
-pub fn create_assertion(rt: &impl Abort) {
+#[test]
+fn create_assertion(rt: HostRuntime) {
     let data = AuthData::assertion(&[0xa3; 32], true, 1);
     let bytes = data.bytes();
     assert!(rt; bytes.len() == 37);

@@ -4,9 +4,9 @@ use hid_assemble::{Assembler, Verdict};
 use hid_packet::Outbox;
 use hid_packet::command::PING;
 use hid_packet::laws::written_packets_are_the_fewest;
-use std::process::Abort;
 
-pub fn assemble_message(rt: &impl Abort) {
+#[test]
+fn assemble_message(rt: HostRuntime) {
     let mut assembler = Assembler::with_given(1);
     let mut outbox = Outbox::new();
     written_packets_are_the_fewest();

@@ -2,9 +2,9 @@
 
 use hid_packet::laws::written_packets_are_the_fewest;
 use hid_packet::{Outbox, View, command};
-use std::process::Abort;
 
-pub fn queue_message(rt: &impl Abort) {
+#[test]
+fn queue_message(rt: HostRuntime) {
     let mut outbox = Outbox::new();
     written_packets_are_the_fewest(); // so there is capacity
     outbox.put_message(1, command::PING, b"hello");

@@ -1,10 +1,10 @@
 //! Replays a log in memory. No page shows this example.
 
 use session_log::{SliceIn, SliceOut, replay};
-use std::process::Abort;
 use token_session::Session;
 
-pub fn replay_log(rt: &impl Abort) {
+#[test]
+fn replay_log(rt: HostRuntime) {
     let mut session = Session::<8>::bare([0; 16], 0);
     let mut reader = SliceIn::new(b"# 5 ms pass\nt 5\n");
     let mut text = [0; 256];

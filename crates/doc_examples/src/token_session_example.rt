@@ -1,10 +1,10 @@
 //! The example in the documentation of `token_session`.
 
 use hid_packet::{BROADCAST, Fragments, Outbox, View, command};
-use std::process::Abort;
 use token_session::{Input, Session};
 
-pub fn allocate_channel(rt: &impl Abort) {
+#[test]
+fn allocate_channel(rt: HostRuntime) {
     let mut key = Session::<8>::bare([0; 16], 0);
     for packet in Fragments::new(BROADCAST, command::INIT, b"nonce...") {
         let mut outbox = Outbox::new();
