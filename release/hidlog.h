@@ -247,8 +247,9 @@ struct hidlog_cause {
 };
 /* Stores why the key rejected its last input in *cause, and writes this as a UTF-8 sentence without a full stop to
  * `out`, truncated to `out_cap` bytes (160 are enough). `which` is 1 for the input itself, or 0 for a timeout that the
- * key handled before it. Returns the number of bytes written. If nothing was rejected, after hidlog_key_replay_lines
- * and after power-up, returns 0 and stores nothing. HIDLOG_KEY_ERR_INVALID_ARGUMENT: another value of `which`. */
+ * key handled before it. Returns the number of bytes written. Returns 0 and stores nothing if nothing was rejected, or
+ * if the last call was hidlog_key_replay_lines or a power-up. HIDLOG_KEY_ERR_INVALID_ARGUMENT: another value of
+ * `which`. */
 int32_t hidlog_key_cause(struct hidlog_key *key, uint32_t which, struct hidlog_cause *cause, uint8_t *out,
                          size_t out_cap);
 
