@@ -36,6 +36,7 @@ FOLDERS = (
     *(f"crates/{name}/{part}" for name in CRATES for part in ("specs", "src")),
     *(
         "crates/hidlog_c",
+        "crates/hello_key/src",
         "crates/doc_examples/src",
         "standard",
         "release",

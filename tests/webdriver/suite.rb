@@ -8,7 +8,9 @@ KEY = "MIGHAgEAMBMGByqGSM49AgEGCCqGSM49AwEHBG0wawIBAQQg8_zMDQDYAxlU-Qhk1Dwkf0v18
 URL, PAGE = ARGV
 
 options = Selenium::WebDriver::Options.chrome(args: ["--headless=new", "--no-sandbox", "--disable-dev-shm-usage"])
-DRIVER = Selenium::WebDriver.for(:remote, url: URL, capabilities: options)
+# On a busy machine, a command can take longer than the 60 seconds that the client waits by default.
+client = Selenium::WebDriver::Remote::Http::Default.new(open_timeout: 600, read_timeout: 600)
+DRIVER = Selenium::WebDriver.for(:remote, url: URL, capabilities: options, http_client: client)
 DRIVER.manage.timeouts.script_timeout = 300
 
 # Calls a function of the page.

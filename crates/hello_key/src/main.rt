@@ -1,16 +1,6 @@
 //! An example of a host: it allocates a channel of a security key with INIT, sends a PING, and registers a credential.
-//! The packets that the key sends are printed. The modules have the examples in the libraries' documentation, as tests.
+//! The packets that the key sends are printed.
 #![tactic(auto)]
-
-mod authn_core_example;
-mod cred_table_example;
-mod ctap_cbor_example;
-mod ctap_message_example;
-mod fido_authdata_example;
-mod hid_assemble_example;
-mod hid_packet_example;
-mod session_log_example;
-mod token_session_example;
 
 use authn_core::{NewKey, Presence, Signature};
 use hid_packet::command::{CBOR, INIT, PING};
