@@ -91,7 +91,7 @@
         return importable ? new UnreadableFileError(`the file is ${importable[1]}`, "", true) : null;
     };
 
-    // A packet, or another input of a log.
+    // A log line with a packet of either side, or with another input: time, user presence, a key pair, a signature.
     const PACKET_OR_INPUT = /^(?:(?:> \d+|<) [0-9a-f]{128}|[tpks] \d+(?: .*)?)$/i;
     // Number of hexadecimal digits of a packet, and maximum number of characters of a line in a message.
     const [PACKET_DIGITS, MAX_SHOWN] = [2 * PACKET_SIZE, 60];

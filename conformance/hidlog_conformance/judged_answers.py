@@ -246,7 +246,8 @@ class AnswerJudge:
             self.kept.remove(named_credential_id(asked))
 
     def make_difference(self, transaction: Transaction, expected: str, message: hid.Message) -> rules.Difference:
-        """Returns the difference of a response; its section is that of the request's error, or of the command."""
+        """Returns the difference between the expected and the actual response. It names the section of CTAP 2.1 that
+        defines the request's error, or else the command."""
         fault = find_fault(transaction.data)
         own = fault.section if fault is not None and fault.section else ""
         if self.passed_over:

@@ -1,4 +1,5 @@
-// Implements the Python methods, calls and built-in functions that the rules use. Extends `globalThis.hidlogPython`.
+// Implements the Python methods and built-in functions that the rules of the conformance tests call, after their
+// translation to JavaScript by translate.py. Extends `globalThis.hidlogPython`.
 "use strict";
 
 (() => {
