@@ -192,7 +192,9 @@ class StatusJudge:
             expected = "status 19, since the list has a credential of this key"
             check(not any(self.answers.is_fresh(one, transaction) for one in excluded), expected, "status 00")
             raise UncertainMismatch(f"{expected}, {OTHERWISE}", "status 00")
-        check(status != EXCLUDED or bool(asked.get(5)), "no status 19, since the request has no excludeList", "status 19")
+        check(
+            status != EXCLUDED or bool(asked.get(5)), "no status 19, since the request has no excludeList", "status 19"
+        )
         if status == EXCLUDED and not excluded:
             names = [one["id"] for one in asked[5] if one["type"] == "public-key"]
             open_question = not self.answers.is_complete and any(name not in self.answers.kept.by_id for name in names)
